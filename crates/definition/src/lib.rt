@@ -1,0 +1,1 @@
+// No code: the definition of the ordering stands in specs/, theorems by computation in proofs/.

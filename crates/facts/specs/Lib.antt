@@ -1,0 +1,3 @@
+-- What is remembered of a run beside it.
+pub mod History
+pub mod Opened

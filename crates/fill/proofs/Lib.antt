@@ -1,0 +1,21 @@
+-- The fill bound. None belongs to a function.
+pub mod Under
+pub mod Sparse
+pub mod Renumbered
+pub mod Chains
+pub mod Family
+pub mod Postorder
+pub mod Permuted
+pub mod Blocks
+pub mod Ended
+pub mod Standing
+pub mod System
+pub mod Spots
+pub mod Charged
+pub mod Told
+pub mod Bound
+pub mod Slots
+pub mod Contiguous
+pub mod Fronts
+pub mod Computed
+pub mod Expected

@@ -1,0 +1,3 @@
+-- What each column of the new order is charged.
+pub mod Charges
+pub mod Opened

@@ -1,0 +1,9 @@
+-- The laws of plain lists. None belongs to a function.
+pub mod Logic
+pub mod Folds
+pub mod Members
+pub mod Repeats
+pub mod Sums
+pub mod Counting
+pub mod Positions
+pub mod Falling

@@ -1,0 +1,4 @@
+-- The vocabulary of plain lists.
+pub mod Lists
+pub mod Members
+pub mod Opened
