@@ -1,6 +1,7 @@
 -- The definition of the ordering, on plain lists: a file for each topic of document 01, which the comments quote. No workspace, no pointers, no
 -- collections, except in `Room`, which counts the collections that a room of a given size has, and in `Outcome`, which adds that count.
 -- The order of the lines is the order of reading: each file uses those above it.
+pub mod Limits
 pub mod Threshold
 pub mod Pattern
 pub mod Answers

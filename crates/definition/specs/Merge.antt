@@ -5,7 +5,7 @@ use mathlib.Core.Bool.{Bool, _&&_, cond}
 use mathlib.Core.List.{List, [], _∷_, _++_, reverse, tail, foldl}
 use lib.Dec.{eqb}
 use lib.ListN.{length}
-use Rattle.plain.specs.Lists.{keep, member, every, total, itself}
+use Rattle.plain.specs.Lists.{keep, total, itself, sameMembers}
 use Rattle.definition.specs.State.{Graph, elementsOf, variablesOf, hasWeight, mergeInto}
 
 -- "the remainder by n of the sum": what is made of the sum of the kept numbers. Every function here takes it as `keyOf`.
@@ -20,14 +20,14 @@ entriesOf g v = tail (elementsOf g v) ++ variablesOf g v
 unfoldable pub key : (ℕ → ℕ) → Graph → ℕ → ℕ
 key keyOf g v = keyOf (total itself (entriesOf g v))
 
--- "equal length, equal element count and the same entries after the first, in any order". As the Rust tests it: each entry of j is one of i's.
--- No list has an entry twice, and then this is that both have the same entries (proofs/Same, `same-entries`).
+-- "equal length, equal element count and the same entries after the first, in any order"
 unfoldable pub sameLists : Graph → ℕ → ℕ → Bool
 sameLists g i j =
     eqb (length (entriesOf g j)) (length (entriesOf g i))
     && eqb (length (elementsOf g j)) (length (elementsOf g i))
-    && every (λ x. member x (entriesOf g i)) (entriesOf g j)
+    && sameMembers (entriesOf g j) (entriesOf g i)
 
+-- "Variables of equal key are compared": both are still there, have one key, and the same lists
 unfoldable pub alike : (ℕ → ℕ) → Graph → ℕ → ℕ → Bool
 alike keyOf g i j = hasWeight g i && hasWeight g j && eqb (key keyOf g i) (key keyOf g j) && sameLists g i j
 

@@ -1,7 +1,7 @@
--- Document 01, "The piece of work", on the pattern, and of "Answers" what is said of the pattern alone.
+-- Document 01, "The piece of work", on the pattern, and of "Answers" what is said of the pattern alone. Its pointers are the pattern's own.
 -- Assumes nothing.
-use Prim.Native.Nat.{ℕ, suc, _+_, _*_}
-use mathlib.Core.Bool.{Bool, true, not, _&&_, _||_}
+use Prim.Native.Nat.{ℕ, suc}
+use mathlib.Core.Bool.{Bool, true, false, not, _&&_, _||_}
 use mathlib.Core.List.{List, [], _∷_, map}
 use lib.IntN.{ℤ, pos, natAbs}
 use lib.Signed.{leZ, ltZ}
@@ -9,6 +9,7 @@ use lib.Dec.{ltb, eqb}
 use lib.ListN.{length, getD, take}
 use lib.Seq.{slice}
 use Rattle.plain.specs.Lists.{upTo, every, rises}
+use Rattle.definition.specs.Limits.{Limits, outside}
 
 -- "A pattern is n columns: a slice of 32-bit signed pointers, and a slice of 32-bit signed row numbers."
 pub record Pattern : Type 0 where
@@ -32,6 +33,7 @@ nnz a = pointer a (columnCount a)
 unfoldable pub column : Pattern → ℕ → List ℕ
 column a k = map natAbs (slice (pointer a k) (pointer a (suc k)) (a .rows))
 
+-- the n columns, in order
 unfoldable pub columns : Pattern → List (List ℕ)
 columns a = map (column a) (upTo (columnCount a))
 
@@ -39,20 +41,11 @@ columns a = map (column a) (upTo (columnCount a))
 unfoldable pub jumbled : List (List ℕ) → Bool
 jumbled cols = not (every rises cols)
 
--- ---- the limits, and what a pattern is refused for
+-- ---- what a pattern is refused for
 
--- the most columns, and the most entries
-pub record Limits : Type 0 where
-  pub mostColumns : ℕ
-  pub mostEntries : ℕ
-
--- "n below 0 or above 100,000", "nnz above 2,000,000": the one place that has these numbers
-unfoldable pub baseLimits : Limits
-baseLimits = record { mostColumns = 100000; mostEntries = 2000000 }
-
--- "n below 0 or above 100,000"
+-- answer 2: "n below 0 or above 100,000"
 unfoldable pub badCount : Limits → Pattern → Bool
-badCount limits a = ltZ (a .n) (pos 0) || ltZ (pos (limits .mostColumns)) (a .n)
+badCount limits a = outside (limits .mostColumns) (a .n)
 
 -- "pointer slice not of length n+1"
 unfoldable pub badLength : Pattern → Bool
@@ -67,6 +60,7 @@ unfoldable pub climbsFrom : ℤ → List ℤ → Bool
 climbsFrom b [] = true
 climbsFrom b (x ∷ xs) = leZ b x && climbsFrom x xs
 
+-- no number is below the one before it
 unfoldable pub climbs : List ℤ → Bool
 climbs [] = true
 climbs (x ∷ xs) = climbsFrom x xs
@@ -79,20 +73,10 @@ badOrder a = not (climbs (a .pointers))
 unfoldable pub badTotal : Limits → Pattern → Bool
 badTotal limits a = ltb (limits .mostEntries) (nnz a) || ltb (length (a .rows)) (nnz a)
 
--- answer 5, the faults in the order of request 8: "length comes first, then the first pointer, then order, then total"
+-- answer 5, its faults in the order of document 01's sentence
 unfoldable pub badPointers : Limits → Pattern → Bool
 badPointers limits a = badLength a || (badFirst a || (badOrder a || badTotal limits a))
 
--- "one of the first nnz rows below 0, or n or more"
+-- answer 6: "one of the first nnz rows below 0, or n or more". "Rows past nnz are never looked at."
 unfoldable pub badRows : Pattern → Bool
 badRows a = not (every (λ r. leZ (pos 0) r && ltZ r (a .n)) (take (nnz a) (a .rows)))
-
--- ---- the room that a pattern needs
-
--- "lists shorter than 2·nnz + n"
-unfoldable pub listsNeed : Pattern → ℕ
-listsNeed a = 2 * nnz a + columnCount a
-
--- "scratch shorter than nnz + 16·n + 16"
-unfoldable pub scratchNeed : Pattern → ℕ
-scratchNeed a = nnz a + 16 * columnCount a + 16

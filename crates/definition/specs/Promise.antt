@@ -6,7 +6,7 @@ use mathlib.Core.List.{List, map}
 use lib.IntN.{ℤ, pos}
 use lib.ListN.{length, replicate}
 use lib.Ieee.{Float}
-use Rattle.definition.specs.Answers.{Problem, accepted}
+use Rattle.definition.specs.Answers.{Answer, accepts, Problem, answerOf}
 use Rattle.definition.specs.Outcome.{Statistics, Outcome, outcome}
 use Rattle.definition.specs.Threshold.{multiplier}
 
@@ -22,6 +22,7 @@ pub record Lent : Type 0 where
   pub lists : List ℤ
   pub scratch : List ℤ
 
+-- the problem that is lent: of the slices that are written, their lengths alone
 unfoldable pub problemOf : Lent → Problem
 problemOf l = record {
   pattern = record { n = l .n; pointers = l .pointers; rows = l .rows };
@@ -35,13 +36,14 @@ problemOf l = record {
 
 -- the answer, the statistics, and each slice that may be written, as it is after the call; the pattern's slices are lent for reading only
 pub record After : Type 0 where
-  pub answer : ℕ
+  pub answer : Answer
   pub statistics : Statistics
   pub permutation : List ℤ
   pub inverse : List ℤ
   pub lists : List ℤ
   pub scratch : List ℤ
 
+-- "wholly zero"
 unfoldable pub zeroed : List ℤ → List ℤ
 zeroed before = replicate (length before) (pos 0)
 
@@ -67,5 +69,6 @@ untouched l o = record {
   scratch = l .scratch;
 }
 
+-- all that a call leaves behind: two calls that meet it leave the same
 unfoldable pub after : Lent → After
-after l = elim (accepted (problemOf l)) [ true ↦ filled l (outcome (problemOf l)) | false ↦ untouched l (outcome (problemOf l)) ]
+after l = elim (accepts (answerOf (problemOf l))) [ true ↦ filled l (outcome (problemOf l)) | false ↦ untouched l (outcome (problemOf l)) ]

@@ -151,9 +151,9 @@ pushFront d v queues = set queues d (v ∷ queueOf queues d)
 abbrev pub startDegree : List (List ℕ) → ℕ → ℕ
 startDegree nbrs v = length (getD nbrs v [])
 
--- "A row is dense if its degree is greater than the threshold."
+-- what row v is at the start: "degree 0 is eliminated at once", and "A row is dense if its degree is greater than the threshold."
 unfoldable pub startKind : ℕ → List (List ℕ) → ℕ → Kind
-startKind limit nbrs v = cond (ltb limit (startDegree nbrs v)) dense (cond (eqb (startDegree nbrs v) 0) element variable)
+startKind limit nbrs v = cond (eqb (startDegree nbrs v) 0) element (cond (ltb limit (startDegree nbrs v)) dense variable)
 
 unfoldable pub startWeight : Kind → ℕ
 startWeight variable = 1

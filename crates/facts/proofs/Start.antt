@@ -83,9 +83,9 @@ module _ (limit : ℕ) (nbrs : List (List ℕ)) where
   unfolding startKind
   kind-cases P v a b c = go (ltb limit (startDegree nbrs v)) (eqb (startDegree nbrs v) 0) refl
     where
-      go : (x y : Bool) → eqb (startDegree nbrs v) 0 ≡ y → P (cond x dense (cond y element variable))
-      go true y e = a
-      go false true e = b (eqb-true (startDegree nbrs v) 0 e)
+      go : (x y : Bool) → eqb (startDegree nbrs v) 0 ≡ y → P (cond y element (cond x dense variable))
+      go x true e = b (eqb-true (startDegree nbrs v) 0 e)
+      go true false e = a
       go false false e = c (eqb-false (startDegree nbrs v) 0 e)
 
   element-empty : (e : ℕ) → isElement (kind g e) ≡ true → length (getD nbrs e []) ≡ 0

@@ -140,7 +140,7 @@ module _ {n : ℕ} (keyOf : ℕ → ℕ) (aggressive : Bool) (g : Graph) (p : �
           let nj = kept-was j (hasWeight g2) new mj in
           let ei = compared-mass i mi in
           let ej = compared-mass j mj in
-          let k = same-entries g2 i j (distinct-entries j nj ej) h in
+          let k = same-entries g2 i j h in
           closed i j ni nj ei ej
           (λ x m. sym (entry x j nj ej) ∙ k .3 x (entry x i ni ei ∙ m))
           (λ x m. sym (entry x i ni ei) ∙ k .2 x (entry x j nj ej ∙ m))

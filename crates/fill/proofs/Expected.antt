@@ -6,7 +6,8 @@ use mathlib.Core.Bool.{Bool, true, false, _&&_}
 use mathlib.Core.List.{List, [], _∷_}
 use Rattle.definition.specs.Answers.{Problem, ruleFor}
 use Rattle.definition.specs.Ordering.{finalOf}
-use Rattle.definition.proofs.Compared.{Case, cases, equal}
+use Rattle.definition.proofs.Problems.{equal}
+use Rattle.definition.proofs.Compared.{Case, cases}
 use Rattle.fill.specs.Charges.{charges}
 use Rattle.fill.specs.Opened.{opened}
 

@@ -9,9 +9,9 @@ use mathlib.Core.List.{List, [], _∷_, _++_, reverse, reverseAux}
 use lib.Dec.{eqb}
 use lib.ListN.{drop, length}
 use borrow.Author.Tests.{eq-eqb}
-use Rattle.plain.proofs.Logic.{either}
-use Rattle.plain.proofs.Members.{member-above, not-kept, member-nil, not-here, member-append, not-cons, not-there, member-here, apart, member-there, no-member, member-cases, member-delete, member-upTo}
-use Rattle.plain.specs.Lists.{countUp, member, consIf, keep, rotate, delete, upTo}
+use Rattle.plain.proofs.Logic.{either, and-left, and-right, and-both, bool-ext}
+use Rattle.plain.proofs.Members.{member-above, not-kept, member-nil, not-here, member-append, not-cons, not-there, member-here, apart, member-there, no-member, member-cases, member-delete, member-upTo, every-within, within-every}
+use Rattle.plain.specs.Lists.{countUp, member, consIf, keep, rotate, delete, upTo, sameMembers, every}
 use Rattle.plain.specs.Members.{Distinct, In, Within}
 
 pub distinct-countUp : (a k : ℕ) → Distinct (countUp a k)
@@ -125,3 +125,22 @@ length-below n xs d h = omega (arith, length-within xs (upTo n) d (λ x m. membe
 pub length-missing : (n : ℕ) (xs : List ℕ) (y : ℕ) → Distinct xs → ((x : ℕ) → In x xs → x < n) → y < n → member y xs ≡ false → length xs < n
 length-missing n xs y d h l m =
     omega (arith, length-within (y ∷ xs) (upTo n) (m, d) (λ x k. member-cases (In x (upTo n)) x y xs k (λ e. member-upTo x n (omega arith)) (λ ne q. member-upTo x n (h x q))), length-countUp 0 n)
+
+-- ---- the same numbers, in any order
+
+pub same-within : (xs ys : List ℕ) → sameMembers xs ys ≡ true → Within xs ys × Within ys xs
+unfolding sameMembers
+same-within xs ys h = (
+  every-within xs ys (and-left (every (λ x. member x ys) xs) (every (λ y. member y xs) ys) h),
+  every-within ys xs (and-right (every (λ x. member x ys) xs) (every (λ y. member y xs) ys) h),
+)
+
+pub within-same : (xs ys : List ℕ) → Within xs ys → Within ys xs → sameMembers xs ys ≡ true
+unfolding sameMembers
+within-same xs ys w v = and-both (every (λ x. member x ys) xs) (every (λ y. member y xs) ys) (within-every xs ys w) (within-every ys xs v)
+
+-- of a list without repeats, and one as long, half of the test is enough
+pub same-by-half : (xs ys : List ℕ) → Distinct xs → length xs ≡ length ys → every (λ x. member x ys) xs ≡ sameMembers xs ys
+same-by-half xs ys d l =
+    bool-ext (every (λ x. member x ys) xs) (sameMembers xs ys)
+    (λ h. let w = every-within xs ys h in within-same xs ys w (within-back xs ys d l w)) (λ h. within-every xs ys (same-within xs ys h .0))

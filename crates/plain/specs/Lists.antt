@@ -63,6 +63,10 @@ unfoldable pub member : ℕ → List ℕ → Bool
 member x [] = false
 member x (y ∷ ys) = eqb x y || member x ys
 
+-- each number of one list stands in the other: the same numbers, in any order
+unfoldable pub sameMembers : List ℕ → List ℕ → Bool
+sameMembers xs ys = every (λ x. member x ys) xs && every (λ y. member y xs) ys
+
 unfoldable pub delete : ℕ → List ℕ → List ℕ
 delete x ys = keep (λ y. not (eqb x y)) ys
 

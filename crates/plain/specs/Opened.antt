@@ -4,5 +4,5 @@ use mathlib.Core.List.{flatMap}
 use Rattle.plain.specs.Lists
 
 unfoldable pub opened : Unit {0}
-unfolding flatMap Lists.countUp Lists.keep Lists.leading Lists.trailing Lists.every Lists.total Lists.rotate Lists.isEmpty Lists.member Lists.delete Lists.position Lists.risesFrom Lists.rises Lists.fallTo
+unfolding flatMap Lists.countUp Lists.keep Lists.leading Lists.trailing Lists.every Lists.total Lists.rotate Lists.isEmpty Lists.member Lists.sameMembers Lists.delete Lists.position Lists.risesFrom Lists.rises Lists.fallTo
 opened = tt
