@@ -74,7 +74,7 @@ rise-step r m =
     mul-assoc r (suc m - 1) (suc m) ∙ ap (λ (z : ℕ). r * z) (tri-step m) ∙ mul-add r ((m - 1) * m) (2 * m)
     ∙ omega (arith, mul-assoc r (m - 1) m, mul-left-comm r 2 m)
 
-pub six-fall : (r m : ℕ) → 6 * total square (fallTo r m) ≡ 6 * (m * r * r) + 6 * (r * (m - 1) * m) + (m - 1) * m * (2 * m - 1)
+six-fall : (r m : ℕ) → 6 * total square (fallTo r m) ≡ 6 * (m * r * r) + 6 * (r * (m - 1) * m) + (m - 1) * m * (2 * m - 1)
 unfolding total fallTo
 six-fall r zero = omega arith
 six-fall r (suc m) =
@@ -87,7 +87,7 @@ twice-triangle x =
     let t : 2 * total itself (fallTo 0 (suc x)) ≡ 2 * (suc x * 0) + x * suc x = twice-fall 0 (suc x) ∙ ap (λ (z : ℕ). 2 * (suc x * 0) + z * suc x) a in
     omega (arith, mul-suc x x)
 
-pub triangle-both : (xs : List ℕ) → 2 * total triangle xs ≡ total square xs + total itself xs
+triangle-both : (xs : List ℕ) → 2 * total triangle xs ≡ total square xs + total itself xs
 unfolding total
 triangle-both [] = refl
 triangle-both (x ∷ xs) = omega (arith, triangle-both xs, twice-triangle x)
@@ -97,3 +97,15 @@ square-mono x y h = mul-le-mul h h
 
 pub triangle-mono : (x y : ℕ) → x ≤ y → triangle x ≤ triangle y
 triangle-mono x y h = omega (arith, twice-triangle x, twice-triangle y, square-mono x y h)
+
+-- ---- LL10: r + m - 1, .., r in closed form
+
+pub fall-sum : (r m : ℕ) → total itself (fallTo r m) ≡ m * r + (m - 1) * m / 2
+fall-sum r m = omega (arith, twice-fall r m)
+
+pub fall-squares : (r m : ℕ) → total square (fallTo r m) ≡ m * r * r + r * (m - 1) * m + (m - 1) * m * (2 * m - 1) / 6
+fall-squares r m = omega (arith, six-fall r m)
+
+-- so that the two together are even: half of them is the sum of the triangles
+pub fall-triangles : (r m : ℕ) → total triangle (fallTo r m) ≡ (total square (fallTo r m) + total itself (fallTo r m)) / 2
+fall-triangles r m = omega (arith, triangle-both (fallTo r m))

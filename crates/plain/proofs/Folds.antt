@@ -9,6 +9,7 @@ use Rattle.plain.proofs.Logic.{or-left, or-right, clash}
 use Rattle.plain.proofs.Members.{member-first, member-there, no-member, member-cases, member-here, not-there, not-here}
 use Rattle.plain.specs.Lists.{consIf, keep, member}
 use Rattle.plain.specs.Members.{All, In, Distinct}
+use Rattle.plain.proofs.Turns.{turn}
 
 module _ {A : Type 0} where
   pub everything : (xs : List A) → All (λ x. Unit {0}) xs

@@ -5,5 +5,10 @@ pub mod Members
 pub mod Repeats
 pub mod Sums
 pub mod Counting
+pub mod Fibres
+pub mod Firsts
 pub mod Positions
+pub mod Permutations
+pub mod Entries
+pub mod Turns
 pub mod Falling

@@ -4,12 +4,12 @@ use Prim.Native.Nat.{_-_, ℕ, _<_, zero, suc, _≤_, _+_}
 use native.Mathlib.Omega.{arith}
 use mathlib.Core.Path.{refl, _≡_, sym, _∙_, ap}
 use mathlib.Core.Logic.{_≢_}
-use mathlib.Core.Bool.{cond, false≢true}
+use mathlib.Core.Bool.{cond, false≢true, _&&_}
 use mathlib.Core.List.{List, [], _∷_, _++_, map}
-use lib.Dec.{eqb}
+use lib.Dec.{eqb, ltb}
 use lib.ListN.{getD, length, drop, length-map, replicate, set}
-use lib.Seq.{getD-append-add}
-use borrow.Author.Tests.{eqb-true, eqb-false, eq-eqb, ne-eqb}
+use lib.Seq.{getD-append-add, getD-set-same, set-out, getD-set-other}
+use borrow.Author.Tests.{eqb-true, eqb-false, eq-eqb, ne-eqb, ltb-true, ltb-false}
 use Rattle.plain.proofs.Logic.{either, or-elim}
 use Rattle.plain.proofs.Members.{member-first, member-there, no-member, member-either}
 use Rattle.plain.proofs.Repeats.{length-countUp}
@@ -101,7 +101,15 @@ getD-same zero i a = refl
 getD-same (suc k) zero a = refl
 getD-same (suc k) (suc i) a = getD-same k i a
 
--- ---- after a place is set (LL9; the rest is in `lib.Seq`)
+-- ---- after a place is set: LL9, as far as `lib.Seq` does not have it
+
+pub getD-set : {A : Type 0} (l : List A) (i j : ℕ) (a d : A) → getD (set l i a) j d ≡ cond (eqb j i && ltb i (length l)) a (getD l j d)
+getD-set l i j a d =
+    either (getD (set l i a) j d ≡ cond (eqb j i && ltb i (length l)) a (getD l j d)) (eqb j i)
+    (λ e. rw e (either (getD (set l i a) j d ≡ cond (ltb i (length l)) a (getD l j d)) (ltb i (length l))
+    (λ h. rw (h, eqb-true j i e) (getD-set-same l i a d (ltb-true i (length l) h)))
+    (λ h. rw (h, set-out l i a (ltb-false i (length l) h)))))
+    (λ e. rw e (getD-set-other l i j a d (eqb-false j i e)))
 
 pub set-has : (P : List ℕ → Type 0) (l : List (List ℕ)) (i : ℕ) (a : List ℕ) (j : ℕ) → P (getD l j []) → (j ≡ i → P a) → P (getD (set l i a) j [])
 set-has P [] i a j p q = p

@@ -11,7 +11,7 @@ use lib.ListN.{length}
 use borrow.Author.Tests.{ne-eqb, eq-eqb}
 use Rattle.plain.proofs.Members.{member-here, member-there, no-member, member-cases, not-here, not-there, member-delete, apart, delete-apart, delete-was}
 use Rattle.plain.proofs.Repeats.{distinct-delete}
-use Rattle.plain.specs.Lists.{total, consIf, keep, member, delete}
+use Rattle.plain.specs.Lists.{total, consIf, keep, member, delete, countUp, upTo}
 use Rattle.plain.specs.Members.{All, Distinct, Within}
 
 module _ {A : Type 0} where
@@ -73,6 +73,20 @@ pub total-map : {A B : Type 0} (f : B → ℕ) (g : A → B) (xs : List A) → t
 unfolding total
 total-map f g [] = refl
 total-map f g (x ∷ xs) = omega (arith, total-map f g xs)
+
+-- ---- prefix sums
+
+pub countUp-snoc : (a k : ℕ) → countUp a (suc k) ≡ countUp a k ++ ((a + k) ∷ [])
+unfolding countUp
+countUp-snoc a zero = ap (λ (x : ℕ). x ∷ []) (omega arith)
+countUp-snoc a (suc k) =
+    let e : suc a + k ≡ a + suc k = omega arith in
+    ap (λ (l : List ℕ). a ∷ l) (countUp-snoc (suc a) k ∙ ap (λ (x : ℕ). countUp (suc a) k ++ (x ∷ [])) e)
+
+pub total-upTo : (f : ℕ → ℕ) (k : ℕ) → total f (upTo (suc k)) ≡ total f (upTo k) + f k
+total-upTo f k =
+    let e : 0 + k ≡ k = omega arith in
+    ap (total f) (countUp-snoc 0 k) ∙ total-append f (upTo k) ((0 + k) ∷ []) ∙ omega (arith, total-one f (0 + k), ap f e)
 
 -- ---- over the members
 

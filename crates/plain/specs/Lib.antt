@@ -1,4 +1,6 @@
 -- The vocabulary of plain lists.
 pub mod Lists
 pub mod Members
+pub mod Permutations
+pub mod Turns
 pub mod Opened
