@@ -55,7 +55,7 @@ not-above x t u h k (no l) = omega arith
 pub root-only : (x t u : ℕ) → IsRoot x t → IsRoot x u → t ≡ u
 root-only x t u h k = omega (arith, not-above x t u h k (decLt u t), not-above x u t k h (decLt t u))
 
--- ---- the start is the largest t with t² at most multiplier² · n, both sixteen count: with q quarters that is 16 · t² at most q² · n
+-- ---- the start is the largest t with t² at most multiplier² · n, both sixteen times: with q quarters that is 16 · t² at most q² · n
 
 pub record IsStart (x : Float) (n t : ℕ) : Type 0 where
   pub low : 16 * (t * t) ≤ quartersOf x * quartersOf x * n

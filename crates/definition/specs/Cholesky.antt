@@ -12,6 +12,7 @@ use Rattle.plain.specs.Lists.{upTo, keep, member, delete, position, total, itse
 unfoldable pub renumbered : List ℕ → List (List ℕ) → List (List ℕ)
 renumbered perm nbrs = map (λ v. map (λ w. position w perm) (getD nbrs v [])) perm
 
+-- v at the end, where it is not there yet
 unfoldable pub addNew : List ℕ → ℕ → List ℕ
 addNew xs v = cond (member v xs) xs (xs ++ (v ∷ []))
 
@@ -19,13 +20,16 @@ addNew xs v = cond (member v xs) xs (xs ++ (v ∷ []))
 unfoldable pub joinTo : List ℕ → List (List ℕ) → ℕ → List (List ℕ)
 joinTo vs adj v = set adj v (foldl addNew (getD adj v []) (delete v vs))
 
+-- "at each, count the later neighbours": those behind k
 unfoldable pub laterOf : List (List ℕ) → ℕ → List ℕ
 laterOf adj k = keep (λ v. ltb k v) (getD adj k [])
 
+-- the neighbours as joined so far, and the counts so far
 pub record Fill : Type 0 where
   pub adj : List (List ℕ)
   pub counted : List ℕ
 
+-- position k goes: its later neighbours are counted, "then join these to one another"
 unfoldable pub fillOne : Fill → ℕ → Fill
 fillOne x k =
     let later = laterOf (x .adj) k in
@@ -37,5 +41,6 @@ counts perm nbrs =
     let x = foldl fillOne (record { adj = renumbered perm nbrs; counted = [] }) (upTo (length perm)) in
     x .counted
 
+-- "The sum of counts is the fill measured against lnz."
 unfoldable pub fill : List ℕ → List (List ℕ) → ℕ
 fill perm nbrs = total itself (counts perm nbrs)

@@ -11,8 +11,10 @@ use Rattle.definition.specs.Pattern.{jumbled}
 unfoldable pub columnsWith : List (List ℕ) → ℕ → List ℕ
 columnsWith cols i = keep (λ j. member i (getD cols j [])) (upTo (length cols))
 
+-- row i of the transpose, for each i: no repeats, ascending
 unfoldable pub transposed : List (List ℕ) → List (List ℕ)
 transposed cols = map (columnsWith cols) (upTo (length cols))
 
+-- a pattern that is not jumbled is ordered as it came
 unfoldable pub cleaned : List (List ℕ) → List (List ℕ)
 cleaned cols = cond (jumbled cols) (transposed cols) cols

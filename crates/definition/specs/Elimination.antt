@@ -29,11 +29,13 @@ finish n s p d new g =
       fronts = s .fronts ++ (record { row = p; pivots = weight g p; rest = size } ∷ []);
     }
 
+-- Steps 2 to 6 for the pivot p, found at degree d.
 unfoldable pub eliminate : (ℕ → ℕ) → ℕ → Bool → State → ℕ → ℕ → State
 eliminate keyOf n aggressive s p d =
     let new = collected (s .graph) p in
     finish n s p d new (mergedAlike keyOf new (trimmed aggressive (passed (s .graph) p) p new))
 
+-- step 1 found a pivot, or nobody is left
 unfoldable pub step : (ℕ → ℕ) → ℕ → Bool → State → Found → State
 step keyOf n aggressive s nobody = s
 step keyOf n aggressive s (found p d) = eliminate keyOf n aggressive s p d

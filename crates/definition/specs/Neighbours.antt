@@ -8,10 +8,12 @@ use lib.Dec.{ltb, eqb}
 use lib.ListN.{length, getD, set, replicate}
 use Rattle.plain.specs.Lists.{upTo, leading, trailing, consIf}
 
+-- two rows that are neighbours in A+A'
 pub record Pair : Type 0 where
   pub one : ℕ
   pub other : ℕ
 
+-- the pair (i, j)
 abbrev pub pair : ℕ → ℕ → Pair
 pair i j = record { one = i; other = j }
 
@@ -29,6 +31,7 @@ skip k (x ∷ xs) = consIf (not (eqb x k)) x xs
 unfoldable pub above : ℕ → List ℕ → List ℕ
 above k col = leading (λ i. ltb i k) col
 
+-- the rows of a column below the diagonal: what is left of it, with k passed over
 unfoldable pub below : ℕ → List ℕ → List ℕ
 below k col = skip k (trailing (λ i. ltb i k) col)
 
@@ -40,6 +43,7 @@ meet k m j = record {
   waiting = set (m .waiting) j (below k (getD (m .waiting) j []));
 }
 
+-- column k: each row above the diagonal is met in turn, and what stands below waits
 unfoldable pub meetColumn : List (List ℕ) → Scan → ℕ → Scan
 meetColumn cols m k =
     let r = foldl (meet k) m (above k (getD cols k [])) in
@@ -53,6 +57,7 @@ scanned cols = foldl (meetColumn cols) (record { met = []; waiting = replicate (
 unfoldable pub leftOver : Scan → ℕ → List Pair
 leftOver m j = map (λ i. pair i j) (getD (m .waiting) j [])
 
+-- every pair in the order in which it is met: by the columns, then what waits at the end, column by column
 unfoldable pub allPairs : List (List ℕ) → List Pair
 allPairs cols = let m = scanned cols in m .met ++ flatMap (leftOver m) (upTo (length cols))
 
@@ -61,5 +66,6 @@ unfoldable pub written : ℕ → List Pair → List ℕ
 written v [] = []
 written v (p ∷ ps) = consIf (eqb v (p .one)) (p .other) (consIf (eqb v (p .other)) (p .one) (written v ps))
 
+-- the neighbours of each row, in the order in which they are written
 unfoldable pub neighbours : List (List ℕ) → List (List ℕ)
 neighbours cols = let ps = allPairs cols in map (λ v. written v ps) (upTo (length cols))

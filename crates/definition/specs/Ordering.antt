@@ -20,6 +20,7 @@ use Rattle.definition.specs.Tree.{postorder}
 unfoldable pub mergedWith : Graph → ℕ → List ℕ
 mergedWith g e = keep (λ v. isMerged (kind g v) && eqb e (rep g v)) (upTo (rowCount g))
 
+-- an element's rows in the new order, its own row last
 unfoldable pub blockOf : Graph → ℕ → List ℕ
 blockOf g e = mergedWith g e ++ (e ∷ [])
 
@@ -27,14 +28,17 @@ blockOf g e = mergedWith g e ++ (e ∷ [])
 unfoldable pub permutationOf : Graph → List ℕ
 permutationOf g = flatMap (blockOf g) (postorder g) ++ denseRows g
 
+-- "permutation and inverse": the place of each old number in the new order
 unfoldable pub inverseOf : List ℕ → List ℕ
 inverseOf perm = map (λ v. position v perm) (upTo (length perm))
 
 -- ---- of a pattern
 
+-- A+A' of a pattern: what the elimination starts from, and what symbolic Cholesky is run on
 abbrev pub graphOf : Pattern → List (List ℕ)
 graphOf a = neighbours (cleaned (columns a))
 
+-- the dense threshold of a pattern
 abbrev pub limitOf : Pattern → Rule → ℕ
 limitOf a rule = threshold rule (columnCount a)
 
@@ -42,9 +46,11 @@ limitOf a rule = threshold rule (columnCount a)
 abbrev pub keyFor : Pattern → ℕ → ℕ
 keyFor a = plainKey (columnCount a)
 
+-- the state in which the elimination ends
 unfoldable pub finalOf : Pattern → Rule → Bool → State
 finalOf a rule aggressive = finalState (keyFor a) aggressive (limitOf a rule) (graphOf a)
 
+-- the outcome that every workspace shares; the elements with their f and r, and the dense count, are what the six are made of
 pub record Plain : Type 0 where
   pub permutation : List ℕ
   pub inverse : List ℕ
@@ -52,6 +58,7 @@ pub record Plain : Type 0 where
   pub denseCount : ℕ
   pub six : Six
 
+-- what is read off the final state
 unfoldable pub plainFrom : State → Plain
 plainFrom s = record {
   permutation = permutationOf (s .graph);

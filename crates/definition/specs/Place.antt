@@ -8,6 +8,7 @@ use Rattle.definition.specs.State.{Graph, element, weight, degree, putKi
 unfoldable pub newDegree : ℕ → ℕ → Graph → ℕ → ℕ
 newDegree left size g v = min (degree g v + size - weight g v) (left - weight g v)
 
+-- the graph, the degree lists and the remembered least degree while the survivors are placed
 pub record Placed : Type 0 where
   pub graph : Graph
   pub queues : List (List ℕ)
@@ -19,6 +20,7 @@ placeOne left size q v =
     let d = newDegree left size (q .graph) v in
     record { graph = putDegree v d (q .graph); queues = pushFront d v (q .queues); least = min (q .least) d }
 
+-- "survivors, in order"
 unfoldable pub placed : ℕ → ℕ → List ℕ → Placed → Placed
 placed left size survivors q = foldl (placeOne left size) q survivors
 

@@ -17,6 +17,7 @@ use Rattle.definition.specs.Elimination.{beside}
 unfoldable pub places : Graph → ℕ → ℕ
 places g v = cond (hasWeight g v && live g v) (length (elementsOf g v) + length (variablesOf g v)) 0
 
+-- all places that lists hold
 unfoldable pub allPlaces : Graph → ℕ
 allPlaces g = total (places g) (upTo (rowCount g))
 
@@ -25,6 +26,7 @@ pub record Read : Type 0 where
   pub entry : ℕ
   pub sofar : ℕ
 
+-- the entries of one list, where c places have been read before it
 unfoldable pub readList : ℕ → List ℕ → List Read
 readList c [] = []
 readList c (v ∷ vs) = record { entry = v; sofar = suc c } ∷ readList (suc c) vs
@@ -34,13 +36,16 @@ unfoldable pub readElements : Graph → ℕ → List ℕ → List ℕ → List R
 readElements g c [] own = readList c own
 readElements g c (e ∷ es) own = readList (suc c) (variablesOf g e) ++ readElements g (suc c + length (variablesOf g e)) es own
 
+-- all that step 2 reads for the pivot p, in its order
 unfoldable pub reads : Graph → ℕ → List Read
 reads g p = readElements g 0 (elementsOf g p) (variablesOf g p)
 
+-- "the next free place", and the collections so far
 pub record Room : Type 0 where
   pub free : ℕ
   pub collections : ℕ
 
+-- the room while the new element is stored, and what is stored of it so far
 pub record Storing : Type 0 where
   pub room : Room
   pub new : List ℕ
@@ -49,18 +54,22 @@ pub record Storing : Type 0 where
 unfoldable pub collect : Graph → ℕ → ℕ → Room → Room
 collect g read stored r = record { free = allPlaces g - read + stored; collections = suc (r .collections) }
 
+-- a collection, where "the next free place is the slice's length"
 unfoldable pub madeFree : ℕ → Graph → ℕ → ℕ → Room → Room
 madeFree size g read stored r = cond (eqb (r .free) size) (collect g read stored r) r
 
+-- one place is used
 unfoldable pub used : Room → Room
 used r = record { free = suc (r .free); collections = r .collections }
 
+-- an entry that is read: where it is to be collected, room is made and it is stored
 unfoldable pub storeOne : ℕ → Graph → ℕ → Storing → Read → Storing
 storeOne size g p q a =
     cond (wanted g p (q .new) (a .entry))
     (record { room = used (madeFree size g (a .sofar) (length (q .new)) (q .room)); new = q .new ++ (a .entry ∷ []) })
     q
 
+-- the room once the new element is stored
 unfoldable pub stored : ℕ → Graph → ℕ → Room → Storing
 stored size g p r = foldl (storeOne size g p) (record { room = r; new = [] }) (reads g p)
 

@@ -45,27 +45,35 @@ pub record State : Type 0 where
 
 -- ---- looking up
 
+-- n
 abbrev pub rowCount : Graph → ℕ
 rowCount g = length (g .weights)
 
+-- what row v is; past the end nothing of consequence
 abbrev pub kind : Graph → ℕ → Kind
 kind g v = getD (g .kinds) v merged
 
+-- the weight of a variable, the pivots of an element
 abbrev pub weight : Graph → ℕ → ℕ
 weight g v = getD (g .weights) v 0
 
+-- the elements of a variable, in the order of its list
 abbrev pub elementsOf : Graph → ℕ → List ℕ
 elementsOf g v = getD (g .elements) v []
 
+-- the variables of a variable or of an element, in the order of its list
 abbrev pub variablesOf : Graph → ℕ → List ℕ
 variablesOf g v = getD (g .variables) v []
 
+-- what a row was merged into, or which element took it up
 abbrev pub parent : Graph → ℕ → Option ℕ
 parent g v = getD (g .parents) v none
 
+-- the degree of a variable, the remaining weight of an element
 abbrev pub degree : Graph → ℕ → ℕ
 degree g v = getD (g .degrees) v 0
 
+-- what a row belongs to
 abbrev pub rep : Graph → ℕ → ℕ
 rep g v = getD (g .reps) v 0
 
@@ -77,6 +85,7 @@ hasWeight g v = ltb 0 (weight g v)
 abbrev pub live : Graph → ℕ → Bool
 live g e = isNone (parent g e)
 
+-- tests of a kind
 abbrev pub isVariable : Kind → Bool
 isVariable variable = true
 isVariable merged = false
@@ -103,26 +112,32 @@ isDense dense = true
 
 -- ---- changing one place
 
+-- v is of kind k
 unfoldable pub putKind : ℕ → Kind → Graph → Graph
 putKind v k g = record
     { kinds = set (g .kinds) v k; weights = g .weights; elements = g .elements; variables = g .variables; parents = g .parents; degrees = g .degrees; reps = g .reps }
 
+-- v has weight w
 unfoldable pub putWeight : ℕ → ℕ → Graph → Graph
 putWeight v w g = record
     { kinds = g .kinds; weights = set (g .weights) v w; elements = g .elements; variables = g .variables; parents = g .parents; degrees = g .degrees; reps = g .reps }
 
+-- v has the elements es
 unfoldable pub putElements : ℕ → List ℕ → Graph → Graph
 putElements v es g = record
     { kinds = g .kinds; weights = g .weights; elements = set (g .elements) v es; variables = g .variables; parents = g .parents; degrees = g .degrees; reps = g .reps }
 
+-- v has the variables vs
 unfoldable pub putVariables : ℕ → List ℕ → Graph → Graph
 putVariables v vs g = record
     { kinds = g .kinds; weights = g .weights; elements = g .elements; variables = set (g .variables) v vs; parents = g .parents; degrees = g .degrees; reps = g .reps }
 
+-- v has the parent p
 unfoldable pub putParent : ℕ → ℕ → Graph → Graph
 putParent v p g = record
     { kinds = g .kinds; weights = g .weights; elements = g .elements; variables = g .variables; parents = set (g .parents) v (some p); degrees = g .degrees; reps = g .reps }
 
+-- v has degree d
 unfoldable pub putDegree : ℕ → ℕ → Graph → Graph
 putDegree v d g = record
     { kinds = g .kinds; weights = g .weights; elements = g .elements; variables = g .variables; parents = g .parents; degrees = set (g .degrees) v d; reps = g .reps }
@@ -138,6 +153,7 @@ mergeInto i v g = putKind v merged (putReps i v (putParent v i (putWeight v 0 (p
 
 -- ---- the degree lists
 
+-- "the list of its degree"
 abbrev pub queueOf : List (List ℕ) → ℕ → List ℕ
 queueOf queues d = getD queues d []
 
@@ -148,6 +164,7 @@ pushFront d v queues = set queues d (v ∷ queueOf queues d)
 -- ---- the start: "In ascending order: degree 0 is eliminated at once, as a root of size 1 that adds nothing to the statistics; a dense row leaves
 -- unordered; any other goes to the front of the list of its degree."
 
+-- how many neighbours row v has
 abbrev pub startDegree : List (List ℕ) → ℕ → ℕ
 startDegree nbrs v = length (getD nbrs v [])
 
@@ -155,12 +172,14 @@ startDegree nbrs v = length (getD nbrs v [])
 unfoldable pub startKind : ℕ → List (List ℕ) → ℕ → Kind
 startKind limit nbrs v = cond (eqb (startDegree nbrs v) 0) element (cond (ltb limit (startDegree nbrs v)) dense variable)
 
+-- one variable each; "a dense row leaves unordered", with no weight
 unfoldable pub startWeight : Kind → ℕ
 startWeight variable = 1
 startWeight merged = 0
 startWeight element = 1
 startWeight dense = 0
 
+-- a variable "goes to the front of the list of its degree"
 unfoldable pub enlist : ℕ → List (List ℕ) → List (List ℕ) → ℕ → List (List ℕ)
 enlist limit nbrs queues v = cond (isVariable (startKind limit nbrs v)) (pushFront (startDegree nbrs v) v queues) queues
 

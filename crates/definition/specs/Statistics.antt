@@ -26,6 +26,7 @@ pub record Block : Type 0 where
 unfoldable pub blocksOf : ℕ → List Front → List Block
 blocksOf nd fronts = map (λ e. record { f = e .pivots; r = e .rest + nd }) fronts ++ (record { f = nd; r = 0 } ∷ [])
 
+-- what all blocks gain together
 unfoldable pub sumOf : (ℕ → ℕ → ℕ) → List Block → ℕ
 sumOf gain blocks = total (λ b. gain (b .f) (b .r)) blocks
 
@@ -42,9 +43,11 @@ pub record Six : Type 0 where
   pub nDense : ℕ
   pub dMax : ℕ
 
+-- "all statistics zero"
 abbrev pub noSix : Six
 noSix = record { lnz = 0; nDiv = 0; nMultSubsLdl = 0; nMultSubsLu = 0; nDense = 0; dMax = 0 }
 
+-- of the elements made, and the dense count
 unfoldable pub sixOf : ℕ → List Front → Six
 sixOf nd fronts = record {
   lnz = sumOf gainQ (blocksOf nd fronts);

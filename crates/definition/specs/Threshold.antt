@@ -11,7 +11,7 @@ pub data Rule : Type 0 where
   fullRows : Rule
   multiplier : Float → Rule
 
--- Four count the value, which is m * up e / down e. "Minus zero counts as zero": its m is 0.
+-- Four times the value, which is m * up e / down e. "Minus zero counts as zero": its m is 0.
 unfoldable pub quartersOf : Float → ℕ
 quartersOf nan = 0
 quartersOf (inf s) = 0

@@ -8,6 +8,7 @@ use lib.Dec.{leb, eqb}
 use Rattle.plain.specs.Lists.{upTo, keep, delete, isNone}
 use Rattle.definition.specs.State.{Graph, rowCount, kind, weight, degree, parent, isElement}
 
+-- p is that parent
 abbrev pub isChildOf : ℕ → Option ℕ → Bool
 isChildOf p none = false
 isChildOf p (some q) = eqb p q
@@ -20,6 +21,7 @@ sizeOf g e = weight g e + degree g e
 unfoldable pub childrenOf : Graph → ℕ → List ℕ
 childrenOf g p = keep (λ e. isElement (kind g e) && isChildOf p (parent g e)) (upTo (rowCount g))
 
+-- the elements that no other took up, ascending
 unfoldable pub roots : Graph → List ℕ
 roots g = keep (λ e. isElement (kind g e) && isNone (parent g e)) (upTo (rowCount g))
 
@@ -37,5 +39,6 @@ unfoldable pub postTree : ℕ → Graph → ℕ → List ℕ
 postTree zero g e = []
 postTree (suc k) g e = flatMap (λ c. postTree k g c) (bigLast (sizeOf g) (childrenOf g e)) ++ (e ∷ [])
 
+-- tree after tree, the roots ascending
 unfoldable pub postorder : Graph → List ℕ
 postorder g = flatMap (postTree (rowCount g) g) (roots g)

@@ -10,6 +10,7 @@ use Rattle.definition.specs.State.{Graph, putElements, weight, putVariab
 
 -- ---- 3. "its external size is the weight of its variables outside the new element"
 
+-- of element e, where new is the new element
 unfoldable pub external : Graph → List ℕ → ℕ → ℕ
 external g new e = total (weight g) (keep (λ v. not (member v new)) (variablesOf g e))
 
@@ -23,6 +24,7 @@ swallowed aggressive g new e = aggressive && eqb (external g new e) 0
 unfoldable pub keptElements : Bool → Graph → List ℕ → ℕ → List ℕ
 keptElements aggressive g new v = keep (λ e. live g e && not (swallowed aggressive g new e)) (elementsOf g v)
 
+-- those of v that are dropped
 unfoldable pub droppedElements : Bool → Graph → List ℕ → ℕ → List ℕ
 droppedElements aggressive g new v = keep (λ e. live g e && swallowed aggressive g new e) (elementsOf g v)
 
@@ -46,10 +48,12 @@ relist g p new es vs v h =
 unfoldable pub trimTo : Graph → ℕ → List ℕ → List ℕ → List ℕ → ℕ → Graph → Graph
 trimTo g p new es vs v h = cond (isEmpty es && isEmpty vs) (mergeInto p v h) (relist g p new es vs v h)
 
+-- one collected variable
 unfoldable pub trimOne : Bool → Graph → ℕ → List ℕ → Graph → ℕ → Graph
 trimOne aggressive g p new h v =
     trimTo g p new (keptElements aggressive g new v) (keptVariables g p new v) v
     (foldl (dropElement p) h (droppedElements aggressive g new v))
 
+-- all of them, in order
 unfoldable pub trimmed : Bool → Graph → ℕ → List ℕ → Graph
 trimmed aggressive g p new = foldl (trimOne aggressive g p new) g new

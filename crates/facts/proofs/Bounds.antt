@@ -12,7 +12,8 @@ use Rattle.plain.proofs.Repeats.{distinct-countUp, length-below}
 use Rattle.plain.proofs.Sums.{one-below, total-members, total-within}
 use Rattle.plain.specs.Lists.{member, upTo}
 use Rattle.definition.specs.State.{State, kind, weight, variablesOf, elementsOf, degree, isVariable}
-use Rattle.facts.proofs.Invariant.{Var, Live, Inv, varWeight, var-inside, element-inside}
+use Rattle.facts.proofs.Invariant.{var-inside, element-inside}
+use Rattle.facts.specs.Invariant.{Var, Live, Inv, varWeight}
 
 module _ {n : ℕ} (s : State) (v : Inv n s) where
   -- what is left has room for each variable: nv ≤ left

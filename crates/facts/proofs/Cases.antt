@@ -12,9 +12,10 @@ use Rattle.plain.proofs.Logic.{either, clash, or-cases}
 use Rattle.plain.specs.Lists.{member, isNone}
 use Rattle.definition.specs.State.{Graph, kind, weight, elementsOf, variablesOf, parent, isVariable, isElement, isDense}
 use Rattle.definition.specs.Pivot.{collected}
-use Rattle.facts.proofs.Invariant.{Var, Live, Quotient, var-elsewhere, element-inside, var-not-element, var-not-dense}
+use Rattle.facts.proofs.Invariant.{var-elsewhere, element-inside, var-not-element, var-not-dense}
 use Rattle.facts.proofs.Collected.{collected-var}
 use Rattle.facts.proofs.Stepped.{isMass, isTaken, isDropped, After, away, remains, Stepped, not-dropped}
+use Rattle.facts.specs.Invariant.{Var, Live, Quotient}
 
 taken-live : (b : Bool) (p : ℕ) (o : Option ℕ) → isNone (cond b (some p) o) ≡ true → (b ≡ false) × (isNone o ≡ true)
 taken-live true p o h = absurd (false≢true h)

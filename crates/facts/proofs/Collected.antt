@@ -12,7 +12,8 @@ use Rattle.plain.specs.Lists.{member}
 use Rattle.plain.specs.Members.{Distinct}
 use Rattle.definition.specs.State.{Graph, kind, elementsOf, variablesOf, hasWeight, isElement}
 use Rattle.definition.specs.Pivot.{candidates, wanted, collectOne, collected}
-use Rattle.facts.proofs.Invariant.{Var, Quotient, var-weighs, weighs-var}
+use Rattle.facts.proofs.Invariant.{var-weighs, weighs-var}
+use Rattle.facts.specs.Invariant.{Var, Quotient}
 
 -- what all of the collected have
 record Fit (g : Graph) (p v : ℕ) : Type 0 where

@@ -13,9 +13,10 @@ use Rattle.plain.specs.Lists.{member, keep, total, upTo}
 use Rattle.plain.specs.Members.{Distinct}
 use Rattle.definition.specs.State.{Graph, Kind, kind, weight, isVariable}
 use Rattle.definition.specs.Pivot.{collected}
-use Rattle.facts.proofs.Invariant.{Var, Quotient, varWeight, var-inside}
+use Rattle.facts.proofs.Invariant.{var-inside}
 use Rattle.facts.proofs.Collected.{collected-var, distinct-collected, pivot-outside}
 use Rattle.facts.proofs.Stepped.{Stepped, After, away, remains}
+use Rattle.facts.specs.Invariant.{Var, Quotient, varWeight}
 
 -- a sum over all rows: over the pivot and the collected ones, and over the others
 split-rows : {n : ℕ} (f : ℕ → ℕ) (xs : List ℕ) → Distinct xs → ((x : ℕ) → member x xs ≡ true → x < n)

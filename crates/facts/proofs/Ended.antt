@@ -10,8 +10,9 @@ use Rattle.plain.proofs.Members.{member-countUp}
 use Rattle.plain.proofs.Sums.{one-below, total-zero}
 use Rattle.plain.specs.Lists.{upTo}
 use Rattle.definition.specs.State.{State, kind, weight, variablesOf, degree, isVariable}
-use Rattle.facts.proofs.Invariant.{Live, Inv, varWeight, var-inside}
+use Rattle.facts.proofs.Invariant.{var-inside}
 use Rattle.facts.proofs.Whole.{all-gone}
+use Rattle.facts.specs.Invariant.{Live, Inv, varWeight}
 
 module _ {n : ℕ} (s : State) (v : Inv n s) (all-gone : s .gone ≡ n) where
   pub no-variable : (i : ℕ) → isVariable (kind (s .graph) i) ≡ false

@@ -18,10 +18,11 @@ use Rattle.plain.specs.Lists.{member, upTo}
 use Rattle.plain.specs.Members.{Distinct}
 use Rattle.definition.specs.State.{kind, degree, isVariable, queueOf, pushFront, startDegree, startKind, enlist, started}
 use Rattle.definition.specs.Elimination.{finalState}
-use Rattle.facts.proofs.Invariant.{Var, Queued, Inv, var-not-merged}
+use Rattle.facts.proofs.Invariant.{var-not-merged}
 use Rattle.facts.proofs.Start.{Neighbourly, kind-in, kind-inside, degree-is, quotient-start, counted-start}
 use Rattle.facts.proofs.Theorem.{inv-run, run-ends}
 use Rattle.facts.proofs.Sizes.{sized-started}
+use Rattle.facts.specs.Invariant.{Var, Queued, Inv, Counted}
 
 -- the rows that the test has stand in the lists, each at its place
 record Lined (n : ℕ) (place : ℕ → ℕ) (qs : List (List ℕ)) (has : ℕ → Bool) : Type 0 where
@@ -169,7 +170,7 @@ module _ (limit : ℕ) (nbrs : List (List ℕ)) (nb : Neighbourly nbrs) where
     bounded = λ i h. (start-least (degree (started limit nbrs .graph) i), rw (degree-is limit nbrs i) (degree-low i (kind-inside limit nbrs i (var-not-merged (kind (started limit nbrs .graph) i) h))));
   }
 
-  counted-is : Rattle.facts.proofs.Invariant.Counted n (started limit nbrs)
+  counted-is : Counted n (started limit nbrs)
   unfolding started
   counted-is = counted-start limit nbrs nb
 

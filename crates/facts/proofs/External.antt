@@ -14,9 +14,9 @@ use Rattle.plain.specs.Members.{Distinct, Within}
 use Rattle.definition.specs.State.{Graph, weight, elementsOf, variablesOf, degree}
 use Rattle.definition.specs.Pivot.{collected, passed}
 use Rattle.definition.specs.Trim.{external}
-use Rattle.facts.proofs.Invariant.{Var, Live, Quotient}
 use Rattle.facts.proofs.Collected.{collected-var, distinct-collected}
 use Rattle.facts.proofs.Rows.{same-passed}
+use Rattle.facts.specs.Invariant.{Var, Live, Quotient}
 
 -- the weight of a variable as far as it has e
 abbrev pub sharing : Graph → ℕ → ℕ → ℕ

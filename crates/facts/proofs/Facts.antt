@@ -20,10 +20,11 @@ use Rattle.plain.specs.Members.{Distinct}
 use Rattle.definition.specs.State.{Graph, weight, elementsOf, variablesOf, parent, hasWeight, live}
 use Rattle.definition.specs.Pivot.{collected, passed}
 use Rattle.definition.specs.Trim.{keptElements, keptVariables, droppedElements, swallowed, external}
-use Rattle.facts.proofs.Invariant.{Var, Live, Quotient, var-weighs, weighs-var, element-inside}
+use Rattle.facts.proofs.Invariant.{var-weighs, weighs-var, element-inside}
 use Rattle.facts.proofs.Collected.{from-element, from-variables, collected-var, tied}
 use Rattle.facts.proofs.Rows.{same-passed, parent-passed}
 use Rattle.facts.proofs.Stepped.{keptE, keptV, isMass, isDropped, isTaken}
+use Rattle.facts.specs.Invariant.{Var, Live, Quotient}
 
 or-none : (P : Type 0) (a b : Bool) → a || b ≡ false → (a ≡ false → b ≡ false → P) → P
 or-none P true b h f = absurd (false≢true (sym h))

@@ -2,7 +2,7 @@
 pub mod Gains
 pub mod Same
 pub mod Sizes
-pub mod Past
+pub mod Beside
 pub mod Permutation
 pub mod Progress
 pub mod Invariant
@@ -29,3 +29,8 @@ pub mod Bounds
 pub mod Pairs
 pub mod Scanned
 pub mod Whole
+pub mod Chains
+pub mod Family
+pub mod Postorder
+pub mod Permuted
+pub mod Blocks

@@ -17,7 +17,6 @@ use Rattle.definition.specs.State.{Graph, State, kind, weight, degree, hasWeigh
 use Rattle.definition.specs.Pivot.{collected, passed, delisted}
 use Rattle.definition.specs.Place.{Placed, placed}
 use Rattle.definition.specs.Elimination.{eliminate, finish}
-use Rattle.facts.proofs.Invariant.{Var, Quotient, Queued, Inv}
 use Rattle.facts.proofs.Collected.{distinct-collected, collected-var}
 use Rattle.facts.proofs.Rows.{same-passed, still-degree}
 use Rattle.facts.proofs.Placing.{element-weights, element-degree-other}
@@ -27,6 +26,7 @@ use Rattle.facts.proofs.Cases.{var-cases}
 use Rattle.facts.proofs.Queues.{Standing, standing-all, standing-same, delisted-was, delisted-gone, delisted-stays, delisted-once}
 use Rattle.facts.proofs.Pivots.{Pivoted}
 use Rattle.facts.proofs.Sizes.{sized-asElement, length-delisted}
+use Rattle.facts.specs.Invariant.{Var, Quotient, Queued, Inv}
 
 -- a variable that is neither the pivot nor collected
 abbrev apartFrom : Graph → ℕ → ℕ → Bool

@@ -20,7 +20,8 @@ use Rattle.plain.specs.Lists.{member, keep, total}
 use Rattle.plain.specs.Members.{Distinct, Within, same}
 use Rattle.definition.specs.State.{Graph, merged, kind, weight, parent, hasWeight, putKind, putReps, putParent, putWeight, mergeInto}
 use Rattle.definition.specs.Merge.{key, sameLists, alike, mergeOne, mergeAll, mergedAlike}
-use Rattle.facts.proofs.Sizes.{Sized, sized-mergeInto}
+use Rattle.facts.proofs.Sizes.{sized-mergeInto}
+use Rattle.facts.specs.Invariant.{Sized}
 
 -- ---- the rows of `mergeInto`
 

@@ -13,7 +13,7 @@ use Rattle.plain.proofs.Sums.{some-above}
 use Rattle.plain.specs.Lists.{member, upTo}
 use Rattle.definition.specs.State.{State, kind, weight, degree, isVariable, queueOf}
 use Rattle.definition.specs.Pivot.{nobody, found, firstFrom, pivot}
-use Rattle.facts.proofs.Invariant.{Var, Inv, varWeight}
+use Rattle.facts.specs.Invariant.{Var, Inv, varWeight}
 
 -- p stands first in the list e, counted from d, and the lists before it are empty
 pub record First (d : ℕ) (qs : List (List ℕ)) (p e : ℕ) : Type 0 where

@@ -13,7 +13,8 @@ use Rattle.plain.specs.Lists.{member}
 use Rattle.plain.specs.Members.{Distinct}
 use Rattle.definition.specs.State.{Graph, merged, element, kind, weight, elementsOf, variablesOf, degree, putKind, putElements, putVariables, putDegree}
 use Rattle.definition.specs.Place.{Placed, newDegree, placeOne, placed, asElement}
-use Rattle.facts.proofs.Sizes.{Sized, sized-putDegree}
+use Rattle.facts.proofs.Sizes.{sized-putDegree}
+use Rattle.facts.specs.Invariant.{Sized}
 
 -- all but the degrees is the same
 pub record SameButDegrees (g h : Graph) : Type 0 where

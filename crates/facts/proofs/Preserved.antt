@@ -19,12 +19,13 @@ use Rattle.plain.specs.Members.{Distinct, Within}
 use Rattle.definition.specs.State.{Graph, kind, weight, elementsOf, variablesOf, parent, degree, hasWeight, live, isVariable, isElement, isDense}
 use Rattle.definition.specs.Pivot.{collected}
 use Rattle.facts.proofs.Merging.{part}
-use Rattle.facts.proofs.Invariant.{Var, Live, Quotient, var-inside, var-elsewhere}
+use Rattle.facts.proofs.Invariant.{var-inside, var-elsewhere}
 use Rattle.facts.proofs.Collected.{collected-var, distinct-collected}
 use Rattle.facts.proofs.External.{split-members}
 use Rattle.facts.proofs.Stepped.{keptE, keptV, isMass, isTaken, After, away, remains, Stepped}
 use Rattle.facts.proofs.Facts.{kept-element, kept-untaken, untaken-kept, kept-variable, kept-variable-apart, kept-variable-outside, kept-variable-var, variable-kept, outside-untaken, outside-variables, mass-elements, kept-distinct, kept-distinct-variables}
 use Rattle.facts.proofs.Cases.{var-cases, collected-no-element, collected-not-dense, live-cases, live-after, pivot-live, var-untaken, members-same}
+use Rattle.facts.specs.Invariant.{Var, Live, Quotient}
 
 module _ {n : ℕ} {aggressive : Bool} {g t : Graph} {p : ℕ} (q : Quotient n g) (pv : Var g p) (st : Stepped n aggressive g t p) where
   -- ---- the lists of a collected variable that remains

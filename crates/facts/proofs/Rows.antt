@@ -18,7 +18,8 @@ use Rattle.plain.specs.Members.{Distinct}
 use Rattle.definition.specs.State.{Graph, Kind, merged, kind, weight, elementsOf, variablesOf, parent, degree, putKind, putReps, putElements, putVariables, putParent, putWeight, putDegree, mergeInto}
 use Rattle.definition.specs.Pivot.{passOne, passed}
 use Rattle.definition.specs.Trim.{trimOne, trimTo, trimmed, relist, dropElement, keptElements, keptVariables, droppedElements, external}
-use Rattle.facts.proofs.Sizes.{Sized, sized-putParent, sized-trimOne, sized-dropped}
+use Rattle.facts.proofs.Sizes.{sized-putParent, sized-trimOne, sized-dropped}
+use Rattle.facts.specs.Invariant.{Sized}
 
 -- all but the parents is the same
 pub record SameRows (g h : Graph) : Type 0 where

@@ -16,15 +16,7 @@ use Rattle.definition.specs.Pivot.{Found, nobody, found, pivot, collected, pass
 use Rattle.definition.specs.Place.{Placed, placeOne, placed, asElement}
 use Rattle.definition.specs.State.{Graph, putKind, putReps, State, Kind, putWeight, putElements, putVariables, elementsOf, putParent, hasWeight, putDegree, isVariable, startKind, enlist, pushFront, started, mergeInto}
 use Rattle.definition.specs.Trim.{trimOne, trimTo, trimmed, relist, dropElement, keptElements, keptVariables, droppedElements}
-
-pub record Sized (n : ℕ) (g : Graph) : Type 0 where
-  pub kinds : length (g .kinds) ≡ n
-  pub weights : length (g .weights) ≡ n
-  pub elements : length (g .elements) ≡ n
-  pub variables : length (g .variables) ≡ n
-  pub parents : length (g .parents) ≡ n
-  pub degrees : length (g .degrees) ≡ n
-  pub reps : length (g .reps) ≡ n
+use Rattle.facts.specs.Invariant.{Sized, SizedState}
 
 pub sized-putKind : {n : ℕ} (v : ℕ) (k : Kind) (g : Graph) → Sized n g → Sized n (putKind v k g)
 unfolding putKind
@@ -152,10 +144,6 @@ unfolding asElement
 sized-asElement p survivors size g h = sized-putKind _ _ _ (sized-putDegree _ _ _ (sized-putElements _ _ _ (sized-putVariables _ _ g h)))
 
 -- ---- with the degree lists
-
-pub record SizedState (n : ℕ) (s : State) : Type 0 where
-  pub graph : Sized n (s .graph)
-  pub queues : length (s .queues) ≡ n
 
 pub record SizedPlaced (n : ℕ) (q : Placed) : Type 0 where
   pub graph : Sized n (q .graph)

@@ -19,8 +19,9 @@ use Rattle.plain.proofs.Sums.{total-members, total-keep, total-add, total-ones}
 use Rattle.plain.specs.Lists.{member, keep, total, upTo, isNone}
 use Rattle.plain.specs.Members.{Distinct}
 use Rattle.definition.specs.State.{Graph, Kind, variable, merged, element, dense, kind, weight, elementsOf, variablesOf, degree, live, isVariable, isElement, isDense, isMerged, startDegree, startKind, startWeight, atOnce, started}
-use Rattle.facts.proofs.Invariant.{Var, Quotient, varWeight, var-not-merged, element-not-merged}
+use Rattle.facts.proofs.Invariant.{var-not-merged, element-not-merged}
 use Rattle.facts.proofs.Sizes.{sized-started}
+use Rattle.facts.specs.Invariant.{Var, Quotient, varWeight}
 
 pub record Neighbourly (nbrs : List (List ℕ)) : Type 0 where
   pub distinct : (v : ℕ) → Distinct (getD nbrs v [])

@@ -20,14 +20,15 @@ use Rattle.definition.specs.State.{Graph, State, Kind, merged, kind, weight, el
 use Rattle.definition.specs.Pivot.{collected, passed, delisted}
 use Rattle.definition.specs.Place.{Placed, placed, asElement, newDegree}
 use Rattle.definition.specs.Elimination.{eliminate, finish}
-use Rattle.facts.proofs.Invariant.{Var, Quotient, var-inside}
+use Rattle.facts.proofs.Invariant.{var-inside}
 use Rattle.facts.proofs.Collected.{distinct-collected, collected-apart, collected-var, pivot-outside}
 use Rattle.facts.proofs.Rows.{same-passed, trimDegree, still-elements, still-variables, still-degree, still-kind, still-weight}
 use Rattle.facts.proofs.Merging.{Fate, stays, joins}
 use Rattle.facts.proofs.Placing.{SameButDegrees, placed-same, placed-other, placed-own, element-weights, element-parents, element-kind-other, element-elements-other, element-variables-other, element-degree-other, element-kind, element-variables, element-degree}
 use Rattle.facts.proofs.Weights.{sums3, conserved3}
 use Rattle.facts.proofs.Stepped.{isMass, afterTrim, afterMerge, After, away, remains, Stepped, inside, weight2, kind2, elements2, variables2, degree2, var-parent2, other-parent2, joined2}
-use Rattle.facts.proofs.Sizes.{Sized, sized-asElement, sized-putDegree}
+use Rattle.facts.proofs.Sizes.{sized-asElement, sized-putDegree}
+use Rattle.facts.specs.Invariant.{Var, Sized, Quotient}
 
 -- keep of the plan, and rw
 unfoldable pub survivorsOf : (ℕ → ℕ) → Bool → Graph → ℕ → List ℕ

@@ -18,11 +18,12 @@ use Rattle.definition.specs.State.{Graph, Kind, merged, element, kind, weight, 
 use Rattle.definition.specs.Pivot.{collected, passed}
 use Rattle.definition.specs.Trim.{trimmed, keptElements, keptVariables, droppedElements}
 use Rattle.definition.specs.Merge.{mergedAlike}
-use Rattle.facts.proofs.Invariant.{Var, Quotient, var-inside, var-elsewhere}
+use Rattle.facts.proofs.Invariant.{var-inside, var-elsewhere}
 use Rattle.facts.proofs.Collected.{distinct-collected, collected-apart, collected-var}
 use Rattle.facts.proofs.Rows.{same-passed, parent-passed, nothingKept, trimDegree, takenAt, trimmed-elements, trimmed-variables, trimmed-degree, trimmed-kind, trimmed-weight, trimmed-parent, still-elements, still-variables, still-degree, still-kind, still-weight}
 use Rattle.facts.proofs.Merging.{Joined, joined, part}
-use Rattle.facts.proofs.Sizes.{Sized, sized-parents, sized-trimmed}
+use Rattle.facts.proofs.Sizes.{sized-parents, sized-trimmed}
+use Rattle.facts.specs.Invariant.{Var, Sized, Quotient}
 
 -- ---- the parts of a step, in the graph before it
 

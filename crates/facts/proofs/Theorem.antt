@@ -9,13 +9,14 @@ use borrow.Author.Tests.{ltb-true, ltb-false}
 use Rattle.definition.specs.State.{State}
 use Rattle.definition.specs.Pivot.{Found, nobody, found, pivot}
 use Rattle.definition.specs.Elimination.{eliminate, step, run}
-use Rattle.facts.proofs.Invariant.{Inv, var-weighs}
+use Rattle.facts.proofs.Invariant.{var-weighs}
 use Rattle.facts.proofs.Step.{stepped, gone-after}
 use Rattle.facts.proofs.Preserved.{quotient-after}
 use Rattle.facts.proofs.Count.{count-after}
 use Rattle.facts.proofs.Pivots.{Pivoted, pivoted, some-pivot}
 use Rattle.facts.proofs.Listed.{queued-after}
 use Rattle.facts.proofs.Progress.{progress}
+use Rattle.facts.specs.Invariant.{Inv}
 
 module _ {n : ℕ} (keyOf : ℕ → ℕ) (aggressive : Bool) where
   pub inv-eliminate : (s : State) → Inv n s → (p d : ℕ) → Pivoted s p d → Inv n (eliminate keyOf n aggressive s p d)

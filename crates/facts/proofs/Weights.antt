@@ -17,14 +17,15 @@ use Rattle.definition.specs.State.{Graph, kind, weight, hasWeight, isElement, m
 use Rattle.definition.specs.Pivot.{collected, passed}
 use Rattle.definition.specs.Trim.{trimmed, trimOne, trimTo, relist, dropElement, keptElements, keptVariables, droppedElements}
 use Rattle.definition.specs.Merge.{entriesOf, sameLists}
-use Rattle.facts.proofs.Invariant.{Var, Quotient, var-inside}
+use Rattle.facts.proofs.Invariant.{var-inside}
 use Rattle.facts.proofs.Collected.{distinct-collected, collected-var, pivot-outside}
 use Rattle.facts.proofs.Rows.{same-passed, same-dropped, nothingKept}
 use Rattle.facts.proofs.Merging.{part, part-moved}
 use Rattle.facts.proofs.Stepped.{keptE, keptV, isMass, afterTrim, afterMerge, inside, sized1, weight2, elements2, variables2, joined2}
 use Rattle.facts.proofs.Facts.{kept-element, kept-variable, kept-distinct, kept-distinct-variables}
 use Rattle.facts.proofs.Same.{same-entries}
-use Rattle.facts.proofs.Sizes.{Sized, sized-dropped, sized-trimOne}
+use Rattle.facts.proofs.Sizes.{sized-dropped, sized-trimOne}
+use Rattle.facts.specs.Invariant.{Sized, Var, Quotient}
 
 -- ---- step 4 moves weight to the pivot only
 

@@ -9,10 +9,10 @@ use Rattle.plain.specs.Lists.{member, rises}
 use Rattle.definition.specs.State.{started}
 use Rattle.definition.specs.Neighbours.{neighbours}
 use Rattle.definition.specs.Elimination.{run, finalState}
-use Rattle.facts.proofs.Invariant.{Inv}
 use Rattle.facts.proofs.Theorem.{inv-run}
 use Rattle.facts.proofs.Enlisted.{inv-start, final-gone}
 use Rattle.facts.proofs.Scanned.{neighbourly, length-neighbours}
+use Rattle.facts.specs.Invariant.{Inv}
 
 module _ (cols : List (List ℕ)) (r : (k : ℕ) → rises (getD cols k []) ≡ true) (within : (k i : ℕ) → member i (getD cols k []) ≡ true → i < length cols)
     (keyOf : ℕ → ℕ) (aggressive : Bool) (limit : ℕ) where

@@ -1,3 +1,5 @@
--- What is remembered of a run beside it.
+-- What theorems about the elimination speak of: its invariant, and what is remembered of a run beside it.
+pub mod Invariant
 pub mod History
+pub mod Past
 pub mod Opened

@@ -3,7 +3,8 @@
 use mathlib.Core.List.{flatMap}
 use Rattle.definition.specs.Opened as definition
 use Rattle.facts.specs.History
+use Rattle.facts.specs.Past
 
 unfoldable pub opened : Unit {0}
-unfolding flatMap definition.opened History.rowsOf History.frontAt History.historyStep History.historyAt History.history History.bornOf History.bornAt
+unfolding flatMap definition.opened History.rowsOf History.frontAt History.historyStep History.historyAt History.history History.bornOf History.bornAt Past.H3 Past.H4 Past.H5
 opened = tt

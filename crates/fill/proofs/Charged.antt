@@ -19,12 +19,12 @@ use Rattle.definition.specs.State.{State, rowCount, rep, degree, denseRows}
 use Rattle.definition.specs.Tree.{postorder}
 use Rattle.definition.specs.Ordering.{blockOf, permutationOf}
 use Rattle.definition.specs.Cholesky.{counts, fill}
-use Rattle.facts.proofs.Past.{H4}
+use Rattle.facts.specs.Past.{H4}
 use Rattle.facts.specs.History.{bornOf, bornAt, frontOf}
+use Rattle.facts.proofs.Family.{dense-in, in-dense}
+use Rattle.facts.proofs.Permuted.{perm-length, row-at, postorder-made, postorder-distinct}
 use Rattle.fill.proofs.Under.{total-places}
 use Rattle.fill.proofs.Sparse.{Cover}
-use Rattle.fill.proofs.Family.{dense-in, in-dense}
-use Rattle.fill.proofs.Permuted.{perm-length, row-at, postorder-made, postorder-distinct}
 use Rattle.fill.proofs.Renumbered.{count-at, total-under}
 use Rattle.fill.proofs.Ended.{Ended, placed, grown}
 use Rattle.fill.proofs.Standing.{Ordered, place, block-owner, block-ordered}

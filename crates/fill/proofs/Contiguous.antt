@@ -18,8 +18,8 @@ use Rattle.plain.specs.Members.{In}
 use Rattle.definition.specs.State.{State, Kind, merged, element, rowCount, kind, parent, rep, isMerged, denseRows}
 use Rattle.definition.specs.Tree.{postorder}
 use Rattle.definition.specs.Ordering.{mergedWith, blockOf, permutationOf}
-use Rattle.facts.proofs.Past.{anElement}
-use Rattle.fill.proofs.Family.{is-merged, own-in}
+use Rattle.facts.specs.Past.{anElement}
+use Rattle.facts.proofs.Family.{is-merged, own-in}
 use Rattle.fill.proofs.Ended.{Ended, owner}
 use Rattle.fill.proofs.Standing.{Ordered, dense-or, place, blocks, in-block, owner-in, in-blocks, block-owner, dense-last, earlier}
 use Rattle.fill.proofs.System.{parent-turn}

@@ -17,9 +17,9 @@ use Rattle.plain.proofs.Repeats.{length-countUp, length-within}
 use Rattle.plain.specs.Lists.{upTo, member}
 use Rattle.plain.specs.Members.{Distinct, In}
 use Rattle.definition.specs.State.{State, Kind, variable, merged, element, dense, rowCount, kind, parent, rep}
-use Rattle.facts.proofs.Past.{H0, H1, H2, H4, H5, Owner, anActive, anElement}
+use Rattle.facts.specs.Past.{H0, H1, H2, H4, H5, Owner, anActive, anElement}
 use Rattle.facts.specs.History.{bornOf, bornAt}
-use Rattle.fill.proofs.Chains.{Grown, Placed}
+use Rattle.facts.proofs.Chains.{Grown, Placed}
 
 pub record Ended (s : State) (fronts nbrs : List (List ℕ)) : Type 0 where
   pub h0 : H0 s fronts

@@ -15,9 +15,10 @@ use Rattle.plain.specs.Members.{Distinct, In}
 use Rattle.definition.specs.State.{Graph, State, rowCount, rep, variablesOf, started}
 use Rattle.definition.specs.Pivot.{Found, nobody, found, pivot}
 use Rattle.definition.specs.Elimination.{step, run}
-use Rattle.facts.proofs.Past.{beside-keeps}
-use Rattle.facts.proofs.Sizes.{SizedState, sized-run, sized-started}
+use Rattle.facts.proofs.Sizes.{sized-run, sized-started}
 use Rattle.facts.specs.History.{frontAt, frontOf, historyStep, historyAt, history}
+use Rattle.facts.proofs.Beside.{beside-keeps}
+use Rattle.facts.specs.Invariant.{SizedState}
 
 -- a list without repeats of numbers below n
 pub record RowList (n : ℕ) (xs : List ℕ) : Type 0 where

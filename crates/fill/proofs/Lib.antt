@@ -2,11 +2,6 @@
 pub mod Under
 pub mod Sparse
 pub mod Renumbered
-pub mod Chains
-pub mod Family
-pub mod Postorder
-pub mod Permuted
-pub mod Blocks
 pub mod Ended
 pub mod Standing
 pub mod System

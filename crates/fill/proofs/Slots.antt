@@ -17,10 +17,10 @@ use Rattle.plain.specs.Members.{Distinct, In}
 use Rattle.definition.specs.State.{State, element, rowCount, kind, rep, degree, denseRows, isDense}
 use Rattle.definition.specs.Tree.{postorder}
 use Rattle.definition.specs.Ordering.{blockOf, permutationOf}
-use Rattle.facts.proofs.Past.{H4}
+use Rattle.facts.specs.Past.{H4}
 use Rattle.facts.specs.History.{bornOf, bornAt, frontOf}
-use Rattle.fill.proofs.Family.{dense-in}
-use Rattle.fill.proofs.Permuted.{perm-length, perm-has, row-at, postorder-made}
+use Rattle.facts.proofs.Family.{dense-in}
+use Rattle.facts.proofs.Permuted.{perm-length, perm-has, row-at, postorder-made}
 use Rattle.fill.proofs.Ended.{Ended, placed, grown}
 use Rattle.fill.proofs.Standing.{Ordered, place, block-owner, block-ordered, dense-last, earlier}
 use Rattle.fill.proofs.System.{rowAt, front-turn}

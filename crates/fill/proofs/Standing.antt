@@ -15,11 +15,11 @@ use Rattle.plain.specs.Members.{In}
 use Rattle.definition.specs.State.{State, Kind, variable, merged, element, dense, rowCount, kind, rep, isMerged, denseRows}
 use Rattle.definition.specs.Tree.{postorder}
 use Rattle.definition.specs.Ordering.{mergedWith, blockOf, permutationOf}
-use Rattle.facts.proofs.Past.{anElement}
+use Rattle.facts.specs.Past.{anElement}
 use Rattle.facts.specs.History.{bornAt}
-use Rattle.fill.proofs.Family.{OfBlock, joined, itsRow, block-in, own-in}
-use Rattle.fill.proofs.Permuted.{postorder-made, postorder-has}
-use Rattle.fill.proofs.Blocks.{lists-order}
+use Rattle.facts.proofs.Family.{OfBlock, joined, itsRow, block-in, own-in}
+use Rattle.facts.proofs.Permuted.{postorder-made, postorder-has}
+use Rattle.facts.proofs.Blocks.{lists-order}
 use Rattle.fill.proofs.Ended.{Ended, owner, nobody, placed, grown}
 
 abbrev pub Dense : State → ℕ → Type 0

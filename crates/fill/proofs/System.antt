@@ -13,10 +13,10 @@ use Rattle.plain.specs.Members.{In}
 use Rattle.definition.specs.State.{State, element, rowCount, kind, parent, rep}
 use Rattle.definition.specs.Tree.{postorder}
 use Rattle.definition.specs.Ordering.{permutationOf}
-use Rattle.facts.proofs.Past.{H5, Above, itsPivot, itsFront, Joined, together, neighbours, inElement, behind, before}
+use Rattle.facts.specs.Past.{H5, Above, itsPivot, itsFront, Joined, together, neighbours, inElement, behind, before}
 use Rattle.facts.specs.History.{bornOf, bornAt, frontOf}
-use Rattle.fill.proofs.Permuted.{postorder-has, perm-length, row-at, perm-has}
-use Rattle.fill.proofs.Postorder.{child-first}
+use Rattle.facts.proofs.Permuted.{postorder-has, perm-length, row-at, perm-has}
+use Rattle.facts.proofs.Postorder.{child-first}
 use Rattle.fill.proofs.Renumbered.{Rows, Original, Closed}
 use Rattle.fill.proofs.Ended.{Ended, owner, nobody, placed, grown}
 use Rattle.fill.proofs.Standing.{Dense, Ordered, dense-or, place, dense-last, earlier}

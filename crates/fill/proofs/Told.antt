@@ -22,10 +22,10 @@ use Rattle.definition.specs.Ordering.{mergedWith, blockOf, permutationOf}
 use Rattle.definition.specs.Statistics.{gainQ, gainS, gainLdl, Block, blocksOf, sumOf, largest, sixOf}
 use Rattle.definition.specs.Cholesky.{counts, fill}
 use Rattle.facts.proofs.Gains.{fall-Q, fall-S, fall-Ldl}
-use Rattle.facts.proofs.Past.{anElement}
+use Rattle.facts.specs.Past.{anElement}
 use Rattle.facts.specs.History.{rowsOf, bornOf, bornAt}
-use Rattle.fill.proofs.Family.{is-merged, OfBlock, joined, itsRow, block-in}
-use Rattle.fill.proofs.Permuted.{postorder-made, postorder-has, postorder-distinct}
+use Rattle.facts.proofs.Family.{is-merged, OfBlock, joined, itsRow, block-in}
+use Rattle.facts.proofs.Permuted.{postorder-made, postorder-has, postorder-distinct}
 use Rattle.fill.proofs.Ended.{Ended, placed, grown}
 use Rattle.fill.proofs.Standing.{dense-or, in-block}
 use Rattle.fill.proofs.Spots.{falls}

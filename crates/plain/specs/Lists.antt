@@ -15,14 +15,17 @@ countUp a (suc k) = a ∷ countUp (suc a) k
 abbrev pub upTo : ℕ → List ℕ
 upTo n = countUp 0 n
 
+-- a number as its own summand
 abbrev pub itself : ℕ → ℕ
 itself x = x
 
 module _ {A : Type 0} where
+  -- there is none
   abbrev pub isNone : Option A → Bool
   isNone none = true
   isNone (some x) = false
 
+  -- x in front, where the test passed
   abbrev pub consIf : Bool → A → List A → List A
   consIf true x xs = x ∷ xs
   consIf false x xs = xs
@@ -41,6 +44,7 @@ module _ {A : Type 0} where
   trailing p [] = []
   trailing p (x ∷ xs) = cond (p x) (trailing p xs) (x ∷ xs)
 
+  -- all elements pass the test
   unfoldable pub every : (A → Bool) → List A → Bool
   every p [] = true
   every p (x ∷ xs) = p x && every p xs
@@ -55,10 +59,12 @@ module _ {A : Type 0} where
   rotate [] = []
   rotate (x ∷ xs) = xs ++ (x ∷ [])
 
+  -- there is no element
   unfoldable pub isEmpty : List A → Bool
   isEmpty [] = true
   isEmpty (x ∷ xs) = false
 
+-- x stands in the list
 unfoldable pub member : ℕ → List ℕ → Bool
 member x [] = false
 member x (y ∷ ys) = eqb x y || member x ys
@@ -67,6 +73,7 @@ member x (y ∷ ys) = eqb x y || member x ys
 unfoldable pub sameMembers : List ℕ → List ℕ → Bool
 sameMembers xs ys = every (λ x. member x ys) xs && every (λ y. member y xs) ys
 
+-- the list without x, wherever it stands; of a list without repeats, one entry less
 unfoldable pub delete : ℕ → List ℕ → List ℕ
 delete x ys = keep (λ y. not (eqb x y)) ys
 
@@ -80,6 +87,7 @@ unfoldable pub risesFrom : ℕ → List ℕ → Bool
 risesFrom b [] = true
 risesFrom b (x ∷ xs) = ltb b x && risesFrom x xs
 
+-- each number is above the one before it
 unfoldable pub rises : List ℕ → Bool
 rises [] = true
 rises (x ∷ xs) = risesFrom x xs

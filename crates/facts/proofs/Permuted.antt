@@ -19,9 +19,9 @@ use Rattle.plain.specs.Members.{same, Distinct, count, In}
 use Rattle.definition.specs.State.{Graph, Kind, merged, element, dense, rowCount, kind, denseRows}
 use Rattle.definition.specs.Tree.{childrenOf, roots, bigLast, postTree, postorder, sizeOf}
 use Rattle.definition.specs.Ordering.{mergedWith, blockOf, permutationOf, inverseOf}
 use Rattle.facts.proofs.Permutation.{permutation-once, permutation-length}
-use Rattle.fill.proofs.Family.{children-in, roots-in, in-bigLast, dense-in, OfBlock, joined, itsRow, block-in}
-use Rattle.fill.proofs.Chains.{Grown, Placed, stands}
+use Rattle.facts.proofs.Family.{children-in, roots-in, in-bigLast, dense-in, OfBlock, joined, itsRow, block-in}
+use Rattle.facts.proofs.Chains.{Grown, Placed, stands}
 
 getD-map-countUp : (f : ℕ → ℕ) (a k i : ℕ) → i < k → getD (map f (countUp a k)) i 0 ≡ f (a + i)
 unfolding countUp

@@ -14,8 +14,8 @@ use Rattle.plain.specs.Lists.{position}
 use Rattle.plain.specs.Members.{In}
 use Rattle.definition.specs.State.{Graph, rowCount}
 use Rattle.definition.specs.Tree.{childrenOf, roots, bigLast, postTree, postorder, sizeOf}
-use Rattle.fill.proofs.Family.{Child, children-in, in-children, roots-in, in-bigLast, bigLast-in}
-use Rattle.fill.proofs.Chains.{Grown}
+use Rattle.facts.proofs.Family.{Child, children-in, in-children, roots-in, in-bigLast, bigLast-in}
+use Rattle.facts.proofs.Chains.{Grown}
 
 module _ (g : Graph) where
   -- the children of each entry stand before it, or in the list `pre`

@@ -1,38 +1,14 @@
--- What is to be proved of the history of a run (the plan's H0 to H5), stated of a state and what is told beside it; and how such a statement is carried
--- through a run. The statements are not proved here.
+-- What is to be proved of the history of a run, the plan's H0 to H5, stated of a state and what is told beside it.
 -- Assumes nothing.
-use Prim.Native.Nat.{ℕ, zero, suc, _<_}
-use mathlib.Core.Path.{_≡_, refl}
-use mathlib.Core.Bool.{Bool, true, false}
+use Prim.Native.Nat.{ℕ, _<_}
+use mathlib.Core.Path.{_≡_}
+use mathlib.Core.Bool.{true}
 use mathlib.Core.List.{List, []}
 use mathlib.Core.Option.{none, some}
-use lib.Dec.{ltb}
 use lib.ListN.{length, getD}
 use Rattle.plain.specs.Lists.{member}
-use Rattle.definition.specs.Elimination.{step, run, beside}
-use Rattle.definition.specs.Pivot.{Found, pivot}
 use Rattle.definition.specs.State.{Graph, State, variable, element, dense, rowCount, kind, weight, degree, parent, rep, elementsOf, variablesOf}
 use Rattle.facts.specs.History.{rowsOf, frontOf, bornAt}
-
--- ---- what each step keeps, of the state and of what is told beside it, holds at the end
-
-turn : {A : Type 0} (P : State → A → Type 0) (b : Bool) (s t : State) (x y : A) → (b ≡ true → P t y) → P s x
-    → P (elim b [ true ↦ t | false ↦ s ]) (elim b [ true ↦ y | false ↦ x ])
-turn P true s t x y h k = h refl
-turn P false s t x y h k = k
-
-pub beside-keeps : {A : Type 0} (P : State → A → Type 0) (tell : State → Found → State → A → A) (keyOf : ℕ → ℕ) (n : ℕ) (aggressive : Bool)
-    → ((s : State) (x : A) → ltb (s .gone) n ≡ true → P s x
-    → P (step keyOf n aggressive s (pivot s)) (tell s (pivot s) (step keyOf n aggressive s (pivot s)) x))
-    → (k : ℕ) (s : State) (x : A) → P s x → P (run keyOf k n aggressive s) (beside tell keyOf k n aggressive s x)
-unfolding run beside
-beside-keeps P tell keyOf n aggressive h zero s x p = p
-beside-keeps P tell keyOf n aggressive h (suc k) s x p =
-    turn P (ltb (s .gone) n) s (run keyOf k n aggressive (step keyOf n aggressive s (pivot s))) x
-    (beside tell keyOf k n aggressive (step keyOf n aggressive s (pivot s)) (tell s (pivot s) (step keyOf n aggressive s (pivot s)) x))
-    (λ e. beside-keeps P tell keyOf n aggressive h k (step keyOf n aggressive s (pivot s)) (tell s (pivot s) (step keyOf n aggressive s (pivot s)) x) (h s x e p)) p
-
--- ---- the statements
 
 module _ (s : State) (fronts : List (List ℕ)) where
   abbrev g : Graph
@@ -63,7 +39,7 @@ module _ (s : State) (fronts : List (List ℕ)) where
     pub own : (v : ℕ) → v < n → Owner v → rep (s .graph) v ≡ v
     pub weighs : (v : ℕ) → v < n → Owner v → weight (s .graph) v ≡ length (rowsOf (s .graph) v)
 
-  -- the front of a live element is what belongs to its variables, at all count
+  -- the front of a live element is what belongs to its variables, at all times
   pub record H1 : Type 0 where
     pub inside : (e v : ℕ) → e < n → v < n → Live e → inFront v e → Active (rep (s .graph) v) × (member (rep (s .graph) v) (variablesOf (s .graph) e) ≡ true)
     pub back : (e v : ℕ) → e < n → v < n → Live e → Active (rep (s .graph) v) → member (rep (s .graph) v) (variablesOf (s .graph) e) ≡ true → inFront v e
