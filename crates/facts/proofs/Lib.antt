@@ -34,3 +34,4 @@ pub mod Family
 pub mod Postorder
 pub mod Permuted
 pub mod Blocks
+pub mod Keys
