@@ -1,7 +1,7 @@
 -- K-a, and the key that does not matter: rows of equal lists have one key, whatever is made of the sum, so that every key leads to the same merges, the same
 -- steps, the same final state and the same number of collections.
 -- Assumes nothing.
-use Prim.Native.Nat.{ℕ, zero, suc, _%_}
+use Prim.Native.Nat.{ℕ, zero, suc}
 use mathlib.Core.Path.{_≡_, refl, sym, ap, _∙_}
 use mathlib.Core.Bool.{Bool, true, false, cond, _&&_}
 use mathlib.Core.List.{List, [], _∷_, foldl, reverse}
@@ -25,11 +25,8 @@ use Rattle.facts.proofs.Pivots.{pivoted}
 use Rattle.facts.proofs.Theorem.{inv-step}
 use Rattle.facts.proofs.Start.{Neighbourly}
 use Rattle.facts.proofs.Enlisted.{inv-start}
+use Rattle.facts.specs.Classes.{wrappedKey}
 use Rattle.facts.specs.Invariant.{Var, Quotient, Inv}
-
--- "the sum reduced modulo 4,294,967,296, then the remainder by n"
-unfoldable pub wrappedKey : ℕ → ℕ → ℕ
-wrappedKey n sum = sum % 4294967296 % n
 
 -- ---- one comparison
 

@@ -35,3 +35,4 @@ pub mod Postorder
 pub mod Permuted
 pub mod Blocks
 pub mod Keys
+pub mod Classes
