@@ -1,29 +1,28 @@
 -- K-b and `top` of F8: step 5 merges each row into the first of its class, for every key; and nothing else changes.
 -- Assumes nothing.
-use Prim.Native.Nat.{ℕ, _+_, _≤_, _<_}
+use Prim.Native.Nat.{ℕ, _<_}
 use native.Mathlib.Omega.{arith}
 use mathlib.Core.Path.{_≡_, refl, sym, ap, subst, _∙_}
 use mathlib.Core.Logic.{_≢_}
 use mathlib.Core.Bool.{Bool, true, false, cond, _&&_}
-use mathlib.Core.List.{List, [], _∷_, foldl, reverse}
-use mathlib.Core.Option.{Option, none, some}
+use mathlib.Core.List.{List, [], _∷_, foldl}
+use mathlib.Core.Option.{none, some}
 use lib.Dec.{eqb, ltb}
-use lib.ListN.{length, getD}
 use lib.Seq.{getD-set-same, ext-getD}
 use borrow.Author.Tests.{eqb-true, eqb-false, eq-eqb, ne-eqb, ltb-true, lt-ltb}
 use Rattle.plain.specs.Lists.{member, keep, total}
 use Rattle.plain.specs.Members.{In, Distinct, Within}
 use Rattle.plain.specs.Turns.{upd}
 use Rattle.plain.specs.Classes.{Equivalence, firstLike, takeOne, takeAll, Alone}
-use Rattle.plain.proofs.Logic.{either, and-left, and-right, clash}
+use Rattle.plain.proofs.Logic.{either, and-left, and-right}
 use Rattle.plain.proofs.Members.{member-here, member-there, member-kept, keep-same, apart, not-there, not-here}
 use Rattle.plain.proofs.Positions.{getD-mapped}
 use Rattle.plain.proofs.Sums.{one-below}
 use Rattle.plain.proofs.Entries.{upd-same, upd-other}
 use Rattle.plain.proofs.Fibres.{total-alone, total-joined}
-use Rattle.plain.proofs.Classes.{alone-one, alone-fold, all-other, all-fresh, first-in, first-like, first-same, first-twice}
-use Rattle.definition.specs.State.{Graph, Kind, merged, kind, weight, parent, rep, hasWeight, putKind, putReps, putParent, putWeight, mergeInto}
-use Rattle.definition.specs.Merge.{entriesOf, sameLists, alike, mergeOne, mergeAll, mergedAlike}
+use Rattle.plain.proofs.Classes.{alone-one, alone-fold, all-other, all-fresh}
+use Rattle.definition.specs.State.{Graph, merged, kind, weight, parent, rep, hasWeight, putKind, putReps, putParent, putWeight, mergeInto}
+use Rattle.definition.specs.Merge.{sameLists, alike, mergeOne, mergeAll}
 use Rattle.facts.specs.Classes.{topOf, ownerOf, Grouped}
 use Rattle.facts.specs.Invariant.{Sized}
 use Rattle.facts.proofs.Same.{same-self, same-back, same-through}
@@ -136,7 +135,7 @@ module _ {n : ℕ} (vs : List ℕ) (g : Graph) (d : Distinct vs) (l : (v : ℕ) 
 
   module _ (heavy : (v : ℕ) → In v vs → hasWeight g v ≡ true) (clean : Clean vs g) (keyOf : ℕ → ℕ) where
     -- who has a weight is who is its own
-    weighs : (owner : ℕ → ℕ) (h : Graph) → Grouped n vs owner g h → (v : ℕ) → In v vs → hasWeight h v ≡ eqb (owner v) v
+    pub weighs : (owner : ℕ → ℕ) (h : Graph) → Grouped n vs owner g h → (v : ℕ) → In v vs → hasWeight h v ≡ eqb (owner v) v
     weighs owner h k v m = ap (ltb 0) (k .weights v m) ∙ go (eqb (owner v) v) refl
       where
         go : (b : Bool) → eqb (owner v) v ≡ b → ltb 0 (cond b (total (weight g) (keep (λ x. eqb (owner x) v) vs)) 0) ≡ b

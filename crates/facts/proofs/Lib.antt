@@ -36,3 +36,5 @@ pub mod Permuted
 pub mod Blocks
 pub mod Keys
 pub mod Classes
+pub mod Tops
+pub mod Buckets

@@ -11,8 +11,8 @@ use Rattle.plain.specs.Lists.{member, keep, consIf}
 use Rattle.plain.specs.Members.{In, Distinct}
 use Rattle.plain.specs.Turns.{upd}
 use Rattle.plain.specs.Classes.{Equivalence, firstLike, takeOne, takeAll, Alone}
-use Rattle.plain.proofs.Logic.{either, and-left, and-right, bool-ext, clash}
-use Rattle.plain.proofs.Members.{no-member, member-here, member-there, member-cases, not-here, not-there, apart}
+use Rattle.plain.proofs.Logic.{either, and-left, bool-ext, clash}
+use Rattle.plain.proofs.Members.{no-member, member-here, member-there, member-cases, not-there, apart}
 use Rattle.plain.proofs.Folds.{fold-other, fold-row}
 
 -- ---- the first that is like j
