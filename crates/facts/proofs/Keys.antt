@@ -142,13 +142,13 @@ module _ (limit : ℕ) (nbrs : List (List ℕ)) (nb : Neighbourly nbrs) (aggress
       ap (λ (r : Room). r .collections)
       (beside-any-key keyOf keyOf′ aggressive (roomStep size) (length nbrs) (started limit nbrs) (record { free = total length nbrs; collections = 0 }) (inv-start limit nbrs nb))
 
-  -- the key of document 01 and that of document 02: the unlimited sum, and the sum in 32 bits
-  pub final-wrapped : finalState (plainKey (length nbrs)) aggressive limit nbrs ≡ finalState (wrappedKey (length nbrs)) aggressive limit nbrs
-  final-wrapped = final-any-key (plainKey (length nbrs)) (wrappedKey (length nbrs))
+  -- the unlimited sum, and the sum in 32 bits
+  pub final-wrapped : (m : ℕ) → finalState (plainKey m) aggressive limit nbrs ≡ finalState (wrappedKey m) aggressive limit nbrs
+  final-wrapped m = final-any-key (plainKey m) (wrappedKey m)
 
-  pub ordering-wrapped : plainFrom (finalState (plainKey (length nbrs)) aggressive limit nbrs) ≡ plainFrom (finalState (wrappedKey (length nbrs)) aggressive limit nbrs)
-  ordering-wrapped = ap plainFrom final-wrapped
+  -- permutation, inverse, elements, and the six statistics that no room has a say in
+  pub ordering-wrapped : (m : ℕ) → plainFrom (finalState (plainKey m) aggressive limit nbrs) ≡ plainFrom (finalState (wrappedKey m) aggressive limit nbrs)
+  ordering-wrapped m = ap plainFrom (final-wrapped m)
 
-  pub collections-wrapped : (size : ℕ)
-      → collectionsOf (plainKey (length nbrs)) aggressive limit nbrs size ≡ collectionsOf (wrappedKey (length nbrs)) aggressive limit nbrs size
-  collections-wrapped size = collections-any-key (plainKey (length nbrs)) (wrappedKey (length nbrs)) size
+  pub collections-wrapped : (m size : ℕ) → collectionsOf (plainKey m) aggressive limit nbrs size ≡ collectionsOf (wrappedKey m) aggressive limit nbrs size
+  collections-wrapped m size = collections-any-key (plainKey m) (wrappedKey m) size

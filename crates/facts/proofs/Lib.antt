@@ -38,3 +38,4 @@ pub mod Keys
 pub mod Classes
 pub mod Tops
 pub mod Buckets
+pub mod Absorbing
