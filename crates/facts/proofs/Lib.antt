@@ -26,6 +26,7 @@ pub mod Start
 pub mod Enlisted
 pub mod Ended
 pub mod Bounds
+pub mod Cleaning
 pub mod Pairs
 pub mod Scanned
 pub mod Whole
