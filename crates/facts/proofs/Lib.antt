@@ -29,6 +29,8 @@ pub mod Bounds
 pub mod Cleaning
 pub mod Pairs
 pub mod Scanned
+pub mod Meeting
+pub mod Edges
 pub mod Whole
 pub mod Chains
 pub mod Family
