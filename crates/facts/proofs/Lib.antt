@@ -27,6 +27,7 @@ pub mod Enlisted
 pub mod Ended
 pub mod Bounds
 pub mod Cleaning
+pub mod Columns
 pub mod Pairs
 pub mod Scanned
 pub mod Meeting
