@@ -32,6 +32,7 @@ pub mod Pairs
 pub mod Scanned
 pub mod Meeting
 pub mod Edges
+pub mod Accepted
 pub mod Whole
 pub mod Chains
 pub mod Family
