@@ -6,7 +6,7 @@ use native.Mathlib.Omega.{arith}
 use native.Mathlib.Decide.{decLt}
 use mathlib.Core.Path.{_≡_, refl, sym, ap, _∙_}
 use mathlib.Core.Bool.{Bool, true, false, cond, not, _&&_, _||_}
-use mathlib.Core.List.{List, [], map}
+use mathlib.Core.List.{List, []}
 use lib.ListN.{length, getD, List·getD-eq-default}
 use Rattle.plain.proofs.Logic.{cond-has}
 use Rattle.plain.proofs.Members.{no-member, member-keep, kept-was, member-upTo, upTo-below}

@@ -34,6 +34,7 @@ pub mod Meeting
 pub mod Edges
 pub mod Accepted
 pub mod Whole
+pub mod KindsKept
 pub mod Chains
 pub mod Family
 pub mod Postorder

@@ -3,7 +3,7 @@
 use Prim.Native.Nat.{ℕ}
 use mathlib.Core.Path.{ap, _≡_, refl, sym, _∙_}
 use mathlib.Core.Logic.{_≢_}
-use mathlib.Core.Bool.{Bool, true, false, _||_, _&&_, cond}
+use mathlib.Core.Bool.{Bool, true, false, _||_, cond}
 use mathlib.Core.List.{List, [], _∷_, _++_, reverse, reverseAux, foldl, flatMap, append-assoc}
 use Rattle.plain.proofs.Logic.{or-left, or-right, clash, and-left, and-right}
 use Rattle.plain.proofs.Members.{member-first, member-there, no-member, member-cases, member-here, not-there, not-here}
