@@ -90,6 +90,10 @@ module _ (cols : List (List ℕ)) where
   unfolding cleaned
   cleaned-jumbled h = ap (λ (b : Bool). cond b (transposed cols) cols) h
 
+  -- and the entries of a jumbled one change places
+  pub member-cleaned : jumbled cols ≡ true → (v w : ℕ) → v < length cols → w < length cols → member w (getD (cleaned cols) v []) ≡ member v (getD cols w [])
+  member-cleaned h v w lv lw = ap (λ (l : List (List ℕ)). member w (getD l v [])) (cleaned-jumbled h) ∙ member-transposed v w lv lw
+
   not-jumbled : jumbled cols ≡ false → every rises cols ≡ true
   unfolding jumbled
   not-jumbled h = go (every rises cols) h
