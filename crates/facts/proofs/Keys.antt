@@ -16,7 +16,10 @@ use Rattle.definition.specs.State.{Graph, State, hasWeight, started, putKind, p
 use Rattle.definition.specs.Pivot.{Found, nobody, found, pivot, collected}
 use Rattle.definition.specs.Merge.{plainKey, entriesOf, key, sameLists, alike, mergeOne, mergeAll, mergedAlike}
 use Rattle.definition.specs.Elimination.{finish, eliminate, step, run, finalState, beside}
-use Rattle.definition.specs.Ordering.{plainFrom}
+use Rattle.definition.specs.Pattern.{columnCount}
+use Rattle.definition.specs.Answers.{Problem, answerOf, ruleFor}
+use Rattle.definition.specs.Ordering.{Plain, plainFrom, plain, finalOf, graphOf, limitOf, keyFor}
+use Rattle.definition.specs.Outcome.{outcome, withCount, refused, collectionCount}
 use Rattle.definition.specs.Room.{Room, roomStep, collectionsOf}
 use Rattle.facts.proofs.Same.{same-key}
 use Rattle.facts.proofs.Stepped.{afterTrim, afterMerge}
@@ -25,6 +28,8 @@ use Rattle.facts.proofs.Pivots.{pivoted}
 use Rattle.facts.proofs.Theorem.{inv-step}
 use Rattle.facts.proofs.Start.{Neighbourly}
 use Rattle.facts.proofs.Enlisted.{inv-start}
+use Rattle.facts.proofs.Accepted.{neighbourly-graph}
+use Rattle.facts.specs.Accepted.{Accepted}
 use Rattle.facts.specs.Classes.{wrappedKey}
 use Rattle.facts.specs.Invariant.{Var, Quotient, Inv}
 
@@ -152,3 +157,35 @@ module _ (limit : ℕ) (nbrs : List (List ℕ)) (nb : Neighbourly nbrs) (aggress
 
   pub collections-wrapped : (m size : ℕ) → collectionsOf (plainKey m) aggressive limit nbrs size ≡ collectionsOf (wrappedKey m) aggressive limit nbrs size
   collections-wrapped m size = collections-any-key (plainKey m) (wrappedKey m) size
+
+-- ---- of an accepted problem: the whole outcome is that of any key
+
+module _ (p : Problem) (ok : Accepted p) (keyOf : ℕ → ℕ) where
+  abbrev finalWith : State
+  finalWith = finalState keyOf (p .aggressive) (limitOf (p .pattern) (ruleFor p)) (graphOf (p .pattern))
+
+  pub plain-any-key : plain (p .pattern) (ruleFor p) (p .aggressive) ≡ plainFrom (finalState keyOf (p .aggressive) (limitOf (p .pattern) (ruleFor p)) (graphOf (p .pattern)))
+  unfolding plain finalOf
+  plain-any-key = ap plainFrom (final-any-key (limitOf (p .pattern) (ruleFor p)) (graphOf (p .pattern)) (neighbourly-graph p ok) (p .aggressive) (keyFor (p .pattern)) keyOf)
+
+  pub count-any-key : collectionCount p ≡ collectionsOf keyOf (p .aggressive) (limitOf (p .pattern) (ruleFor p)) (graphOf (p .pattern)) (p .listsSize)
+  unfolding collectionCount
+  count-any-key = collections-any-key (limitOf (p .pattern) (ruleFor p)) (graphOf (p .pattern)) (neighbourly-graph p ok) (p .aggressive) (keyFor (p .pattern)) keyOf (p .listsSize)
+
+  pub outcome-any-key : outcome p
+      ≡ withCount (answerOf p) (plainFrom (finalState keyOf (p .aggressive) (limitOf (p .pattern) (ruleFor p)) (graphOf (p .pattern))))
+      (collectionsOf keyOf (p .aggressive) (limitOf (p .pattern) (ruleFor p)) (graphOf (p .pattern)) (p .listsSize))
+  unfolding outcome
+  outcome-any-key =
+      ap (λ (b : Bool). elim b [
+        | true ↦ withCount (answerOf p) (plain (p .pattern) (ruleFor p) (p .aggressive)) (collectionCount p)
+        | false ↦ refused (answerOf p)
+      ]) ok
+      ∙ ap (λ (x : Plain). withCount (answerOf p) x (collectionCount p)) plain-any-key
+      ∙ ap (withCount (answerOf p) (plainFrom finalWith)) count-any-key
+
+-- request 2: with the sum in 32 bits
+pub outcome-wrapped : (p : Problem) → Accepted p
+    → outcome p ≡ withCount (answerOf p) (plainFrom (finalState (wrappedKey (columnCount (p .pattern))) (p .aggressive) (limitOf (p .pattern) (ruleFor p)) (graphOf (p .pattern))))
+    (collectionsOf (wrappedKey (columnCount (p .pattern))) (p .aggressive) (limitOf (p .pattern) (ruleFor p)) (graphOf (p .pattern)) (p .listsSize))
+outcome-wrapped p ok = outcome-any-key p ok (wrappedKey (columnCount (p .pattern)))

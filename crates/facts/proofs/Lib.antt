@@ -26,9 +26,15 @@ pub mod Start
 pub mod Enlisted
 pub mod Ended
 pub mod Bounds
+pub mod Cleaning
+pub mod Columns
 pub mod Pairs
 pub mod Scanned
+pub mod Meeting
+pub mod Edges
+pub mod Accepted
 pub mod Whole
+pub mod KindsKept
 pub mod Chains
 pub mod Family
 pub mod Postorder

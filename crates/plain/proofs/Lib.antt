@@ -3,6 +3,7 @@ pub mod Logic
 pub mod Folds
 pub mod Members
 pub mod Repeats
+pub mod Rising
 pub mod Sums
 pub mod Counting
 pub mod Fibres
