@@ -40,3 +40,8 @@ pub mod Family
 pub mod Postorder
 pub mod Permuted
 pub mod Blocks
+pub mod Keys
+pub mod Classes
+pub mod Tops
+pub mod Buckets
+pub mod Absorbing

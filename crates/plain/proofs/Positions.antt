@@ -87,6 +87,11 @@ getD-behind xs ys d k h =
 
 -- ---- a value for each of a, a + 1, ..
 
+pub getD-mapped : {A B : Type 0} (f : A → B) (l : List A) (k : ℕ) (d : A) (e : B) → k < length l → getD (map f l) k e ≡ f (getD l k d)
+getD-mapped f [] k d e h = absurd (omega arith)
+getD-mapped f (x ∷ l) zero d e h = refl
+getD-mapped f (x ∷ l) (suc k) d e h = getD-mapped f l k d e (omega arith)
+
 pub getD-counted : {A : Type 0} (f : ℕ → A) (d : A) (a k i : ℕ) → i < k → getD (map f (countUp a k)) i d ≡ f (a + i)
 unfolding countUp
 getD-counted f d a zero i h = absurd (omega arith)
