@@ -5,3 +5,5 @@ pub mod Multipliers
 pub mod Squares
 pub mod Ops
 pub mod Bounds
+pub mod Signed
+pub mod Growth

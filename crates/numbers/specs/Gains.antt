@@ -1,6 +1,8 @@
--- The statistics as they grow, element by element; proofs/Folded shows that they end as the definition's.
+-- The statistics as they grow, element by element; proofs/Growth shows that they end as the definition's.
 -- Assumes nothing.
 use Prim.Native.Nat.{ℕ, _+_, _≤_, _^_, max}
+use mathlib.Core.List.{List, foldl}
+use Rattle.definition.specs.State.{Front}
 use Rattle.definition.specs.Statistics.{gainQ, gainS, gainLdl}
 use Rattle.definition.specs.Outcome as Outcomes
 use Rattle.numbers.specs.declared.Statistics.{Statistics}
@@ -20,6 +22,10 @@ gained f r x = record {
   dMax = max (x .dMax) (f + r);
   nCmpA = x .nCmpA;
 }
+
+-- after the elements made so far, with nd dense rows: "r = remaining weight plus dense count"
+unfoldable pub afterElements : ℕ → List Front → Outcomes.Statistics
+afterElements nd fronts = foldl (λ x e. gained (e .pivots) (e .rest + nd) x) (begun nd) fronts
 
 -- after `count` collections in all
 unfoldable pub counted : ℕ → Outcomes.Statistics → Outcomes.Statistics

@@ -52,6 +52,49 @@ pub struct Outcome {
     pub statistics: Statistics,
 }
 
+// ---- answers
+
+// The number of an answer in the table.
+pub fn answer_number(a: Answer) -> i32
+    ensures { λ r. ⌜ r ≡ pos (numberOf (answerMeant a)) ⌝ }
+{
+    match a {
+        Answer::Ordered => 0,
+        Answer::OrderedJumbled => 1,
+        Answer::WrongCount => 2,
+        Answer::WrongMultiplier => 3,
+        Answer::WrongOutputs => 4,
+        Answer::WrongPointers => 5,
+        Answer::WrongRows => 6,
+        Answer::WrongRoom => 7,
+    }
+}
+
+pub fn no_statistics() -> Statistics
+    ensures { λ r. ⌜ statisticsMeant r ≡ seven noSix 0 ⌝ }
+{
+    Statistics {
+        lnz: 0,
+        n_div: 0,
+        n_mult_subs_ldl: 0,
+        n_mult_subs_lu: 0,
+        n_dense: 0,
+        d_max: 0,
+        n_cmp_a: 0,
+    }
+}
+
+// What a refusal gives: the answer, and nothing else.
+pub fn refusal(a: Answer) -> Outcome
+    ensures { λ r. ⌜ outcomeMeant r [] [] ≡ refused (answerMeant a) ⌝ }
+{
+    let none = no_statistics();
+    Outcome {
+        answer: a,
+        statistics: none,
+    }
+}
+
 // ---- the dense rule
 
 // Whether there is no dense rule for the multiplier: not a number, infinite, above 1,000, or not below zero and not a whole number of quarters.
@@ -147,4 +190,92 @@ pub fn threshold(rule: DenseRule, n: usize) -> usize
         return n;
     }
     t
+}
+
+// ---- the statistics
+
+// Of no element yet, with the dense rows counted.
+pub fn first_statistics(dense: usize) -> Statistics
+    ensures { λ r. ⌜ statisticsMeant r ≡ begun dense ⌝ }
+{
+    Statistics {
+        lnz: 0,
+        n_div: 0,
+        n_mult_subs_ldl: 0,
+        n_mult_subs_lu: 0,
+        n_dense: dense as u64,
+        d_max: 1,
+        n_cmp_a: 0,
+    }
+}
+
+// q = f·r + (f-1)·f/2, signed: at f = 0 the factor f-1 is negative and the gain is 0.
+pub fn gain_q(f: usize, r: usize) -> u64
+    requires { ⌜ f + r ≤ baseLimits .mostColumns ⌝ }
+    ensures { λ q. ⌜ (q ≡ gainQ f r) × (q ≤ 2 ^ 60) ⌝ }
+{
+    let f = f as i64;
+    let r = r as i64;
+    (f * r + (f - 1) * f / 2) as u64
+}
+
+// s = f·r² + r·(f-1)·f + (f-1)·f·(2f-1)/6, signed.
+pub fn gain_s(f: usize, r: usize) -> u64
+    requires { ⌜ f + r ≤ baseLimits .mostColumns ⌝ }
+    ensures { λ s. ⌜ (s ≡ gainS f r) × (s ≤ 2 ^ 60) ⌝ }
+{
+    let f = f as i64;
+    let r = r as i64;
+    (f * r * r + r * (f - 1) * f + (f - 1) * f * (2 * f - 1) / 6) as u64
+}
+
+fn larger(a: u64, b: u64) -> u64
+    ensures { λ r. ⌜ r ≡ max a b ⌝ }
+{
+    if a < b {
+        return b;
+    }
+    a
+}
+
+// With the gains of one more element, of f pivots and r rows below them.
+pub fn with_element(s: Statistics, f: usize, r: usize) -> Statistics
+    requires { ⌜ Small s × (f + r ≤ baseLimits .mostColumns) ⌝ }
+    ensures { λ t. ⌜ statisticsMeant t ≡ gained f r (statisticsMeant s) ⌝ }
+{
+    let q = gain_q(f, r);
+    let p = gain_s(f, r);
+    let d = larger(s.d_max, (f + r) as u64);
+    Statistics {
+        lnz: s.lnz + q,
+        n_div: s.n_div + q,
+        n_mult_subs_ldl: s.n_mult_subs_ldl + (p + q) / 2,
+        n_mult_subs_lu: s.n_mult_subs_lu + p,
+        n_dense: s.n_dense,
+        d_max: d,
+        n_cmp_a: s.n_cmp_a,
+    }
+}
+
+// The dense block counts as one last element with nothing below.
+pub fn with_dense(s: Statistics, count: usize) -> Statistics
+    requires { ⌜ Small s × (count ≤ baseLimits .mostColumns) ⌝ }
+    ensures { λ t. ⌜ statisticsMeant t ≡ gained count 0 (statisticsMeant s) ⌝ }
+{
+    with_element(s, count, 0)
+}
+
+// With the collections that happened.
+pub fn with_collections(s: Statistics, count: u64) -> Statistics
+    ensures { λ t. ⌜ statisticsMeant t ≡ counted count (statisticsMeant s) ⌝ }
+{
+    Statistics {
+        lnz: s.lnz,
+        n_div: s.n_div,
+        n_mult_subs_ldl: s.n_mult_subs_ldl,
+        n_mult_subs_lu: s.n_mult_subs_lu,
+        n_dense: s.n_dense,
+        d_max: s.d_max,
+        n_cmp_a: count,
+    }
 }
