@@ -13,6 +13,8 @@ pub mod Placing
 pub mod Stepped
 pub mod Weights
 pub mod Step
+pub mod Moved
+pub mod Followed
 pub mod Facts
 pub mod Cases
 pub mod External

@@ -117,3 +117,9 @@ set-has P (x ∷ l) zero a zero p q = q refl
 set-has P (x ∷ l) zero a (suc j) p q = p
 set-has P (x ∷ l) (suc i) a zero p q = p
 set-has P (x ∷ l) (suc i) a (suc j) p q = set-has P l i a j p (λ e. q (ap suc e))
+
+-- an entry of a mapped list, whatever stands past the end
+pub getD-mapped : {A B : Type 0} (f : A → B) (xs : List A) (d : A) (e : B) (i : ℕ) → i < length xs → getD (map f xs) i e ≡ f (getD xs i d)
+getD-mapped f [] d e i h = absurd (omega arith)
+getD-mapped f (x ∷ xs) d e zero h = refl
+getD-mapped f (x ∷ xs) d e (suc i) h = getD-mapped f xs d e i (omega arith)
