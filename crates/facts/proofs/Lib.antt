@@ -15,6 +15,7 @@ pub mod Weights
 pub mod Step
 pub mod Moved
 pub mod Followed
+pub mod Weighing
 pub mod Facts
 pub mod Cases
 pub mod External
@@ -25,6 +26,7 @@ pub mod Pivots
 pub mod Listed
 pub mod Theorem
 pub mod Start
+pub mod Belonging
 pub mod Enlisted
 pub mod Ended
 pub mod Bounds

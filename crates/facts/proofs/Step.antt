@@ -106,7 +106,7 @@ module _ {n : ℕ} (keyOf : ℕ → ℕ) (aggressive : Bool) (g : Graph) (p : �
     pub parent-t : (v : ℕ) → parent t v ≡ parent g3 v
     parent-t v = ap (λ (l : List (Option ℕ)). getD l v none) (same .parents ∙ element-parents p survivors size g3)
 
-    kind-t : (v : ℕ) → v ≢ p → kind t v ≡ kind g3 v
+    pub kind-t : (v : ℕ) → v ≢ p → kind t v ≡ kind g3 v
     kind-t v ne = ap (λ (l : List Kind). getD l v merged) (same .kinds) ∙ element-kind-other p survivors size g3 v ne
 
     elements-t : (v : ℕ) → v ≢ p → elementsOf t v ≡ elementsOf g2 v

@@ -123,3 +123,10 @@ pub getD-mapped : {A B : Type 0} (f : A → B) (xs : List A) (d : A) (e : B) (i 
 getD-mapped f [] d e i h = absurd (omega arith)
 getD-mapped f (x ∷ xs) d e zero h = refl
 getD-mapped f (x ∷ xs) d e (suc i) h = getD-mapped f xs d e i (omega arith)
+
+-- an entry of the numbers from a on
+pub getD-countUp : (a k i d : ℕ) → i < k → getD (countUp a k) i d ≡ a + i
+unfolding countUp
+getD-countUp a zero i d h = absurd (omega arith)
+getD-countUp a (suc k) zero d h = omega arith
+getD-countUp a (suc k) (suc i) d h = omega (arith, getD-countUp (suc a) k i d (omega arith))
