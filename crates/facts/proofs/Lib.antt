@@ -27,6 +27,7 @@ pub mod Listed
 pub mod Theorem
 pub mod Start
 pub mod Belonging
+pub mod Fronted
 pub mod Enlisted
 pub mod Ended
 pub mod Bounds
