@@ -28,6 +28,7 @@ pub mod Theorem
 pub mod Start
 pub mod Belonging
 pub mod Fronted
+pub mod Raised
 pub mod Enlisted
 pub mod Ended
 pub mod Bounds
