@@ -29,6 +29,7 @@ pub mod Start
 pub mod Belonging
 pub mod Fronted
 pub mod Raised
+pub mod Linked
 pub mod Enlisted
 pub mod Ended
 pub mod Bounds
