@@ -30,6 +30,7 @@ pub mod Belonging
 pub mod Fronted
 pub mod Raised
 pub mod Linked
+pub mod Recorded
 pub mod Enlisted
 pub mod Ended
 pub mod Bounds
