@@ -31,6 +31,7 @@ pub mod Fronted
 pub mod Raised
 pub mod Linked
 pub mod Recorded
+pub mod Remembered
 pub mod Enlisted
 pub mod Ended
 pub mod Bounds
