@@ -32,6 +32,7 @@ pub mod Raised
 pub mod Linked
 pub mod Recorded
 pub mod Remembered
+pub mod Past
 pub mod Enlisted
 pub mod Ended
 pub mod Bounds
