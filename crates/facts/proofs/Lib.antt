@@ -44,3 +44,4 @@ pub mod Family
 pub mod Postorder
 pub mod Permuted
 pub mod Blocks
+pub mod Outcome
