@@ -14,3 +14,4 @@ pub mod Contiguous
 pub mod Fronts
 pub mod Computed
 pub mod Expected
+pub mod Discharged
