@@ -4,7 +4,7 @@ use Prim.Native.Nat.{ℕ, _+_, _<_}
 use native.Mathlib.Omega.{arith}
 use mathlib.Core.Path.{_≡_, refl, sym, ap, _∙_}
 use mathlib.Core.Logic.{_≢_}
-use mathlib.Core.Bool.{Bool, true, false, cond, false≢true}
+use mathlib.Core.Bool.{Bool, true, false, false≢true}
 use mathlib.Core.List.{List}
 use lib.Dec.{eqb}
 use lib.ListN.{length}
@@ -14,15 +14,15 @@ use Rattle.plain.proofs.Logic.{either, clash}
 use Rattle.plain.proofs.Members.{upTo-below}
 use Rattle.plain.proofs.Positions.{getD-countUp}
 use Rattle.plain.proofs.Sums.{total-members}
-use Rattle.plain.specs.Lists.{member, total, upTo}
+use Rattle.plain.specs.Lists.{member, upTo}
 use Rattle.plain.specs.Members.{same}
-use Rattle.definition.specs.State.{Graph, Kind, variable, merged, element, dense, kind, weight, rep, isVariable, isElement, isDense, isMerged, startWeight, started}
+use Rattle.definition.specs.State.{Graph, Kind, variable, merged, element, dense, kind, rep, isVariable, isElement, isDense, isMerged, startWeight, started}
 use Rattle.definition.specs.Pivot.{collected}
-use Rattle.facts.proofs.Cases.{collected-no-element, collected-not-dense}
+use Rattle.facts.proofs.Cases.{collected-no-element, dense-after}
 use Rattle.facts.proofs.Collected.{collected-var}
-use Rattle.facts.proofs.Followed.{Heir, Followed}
+use Rattle.facts.proofs.Followed.{Followed}
 use Rattle.facts.proofs.Invariant.{var-inside, element-inside, var-not-dense}
-use Rattle.facts.proofs.Start.{kind-in, kind-inside, weight-is, start-not-merged}
+use Rattle.facts.proofs.Start.{kind-inside, weight-is, start-not-merged}
 use Rattle.facts.proofs.Stepped.{isMass, Stepped}
 use Rattle.facts.proofs.Weighing.{Weighing}
 use Rattle.facts.specs.Invariant.{Var, Quotient}
@@ -56,15 +56,6 @@ module _ {n : ℕ} {aggressive : Bool} {g t : Graph} {p : ℕ} (q : Quotient n g
   row-cases P r a b c d =
       either P (eqb r p) (λ e. a (eqb-true r p e))
       (λ e. either P (member r (collected g p)) (λ m. either P (isMass aggressive g p r) (b m) (c m)) (λ m. d (eqb-false r p e) m))
-
-  -- what is dense was and stays so
-  pub was-dense : (v : ℕ) → isDense (kind t v) ≡ isDense (kind g v)
-  was-dense v =
-      either (isDense (kind t v) ≡ isDense (kind g v)) (eqb v p)
-      (λ e. let x : v ≡ p = eqb-true v p e in rw x (ap isDense (st .pivot-kind) ∙ sym (var-not-dense (kind g p) pv)))
-      (λ e. either (isDense (kind t v) ≡ isDense (kind g v)) (member v (collected g p))
-      (λ m. collected-not-dense q pv st v m ∙ sym (var-not-dense (kind g v) (collected-var q p pv v m)))
-      (λ m. ap isDense (st .still-kind v (eqb-false v p e) m)))
 
   pub dense-apart : (v : ℕ) → isDense (kind g v) ≡ true → v ≢ p
   dense-apart v d e = clash (isDense (kind g v)) d (ap (λ (z : ℕ). isDense (kind g z)) e ∙ var-not-dense (kind g p) pv)
@@ -108,9 +99,9 @@ module _ {n : ℕ} {aggressive : Bool} {g t : Graph} {p : ℕ} (q : Quotient n g
 
   pub belonging-after : Weighing n t → Belonging n g → Belonging n t
   belonging-after w b = record {
-    owned = λ v l d. rw (f .follows v l) (goes-holds (rep g v) (b .owned v l (sym (was-dense v) ∙ d)));
+    owned = λ v l d. rw (f .follows v l) (goes-holds (rep g v) (b .owned v l (sym (dense-after q pv st v) ∙ d)));
     own = own-after b;
-    alone = λ v l d. let k = sym (was-dense v) ∙ d in
+    alone = λ v l d. let k = sym (dense-after q pv st v) ∙ d in
         f .follows v l ∙ ap (f .goes) (b .alone v l k) ∙ f .of-other v (dense-apart v k) (dense-outside v k);
     weighs = w;
   }

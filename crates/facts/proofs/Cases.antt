@@ -54,6 +54,15 @@ module _ {n : ℕ} {aggressive : Bool} {g t : Graph} {p : ℕ} (q : Quotient n g
       go (away a b) = ap isDense a
       go (remains a b c d) = ap isDense b ∙ var-not-dense (kind g v) (collected-var q p pv v m)
 
+  -- dense rows stay, and no row becomes one
+  pub dense-after : (v : ℕ) → isDense (kind t v) ≡ isDense (kind g v)
+  dense-after v =
+      either (isDense (kind t v) ≡ isDense (kind g v)) (eqb v p)
+      (λ e. let x : v ≡ p = eqb-true v p e in rw x (ap isDense (st .pivot-kind) ∙ sym (var-not-dense (kind g p) pv)))
+      (λ e. either (isDense (kind t v) ≡ isDense (kind g v)) (member v (collected g p))
+      (λ m. collected-not-dense v m ∙ sym (var-not-dense (kind g v) (collected-var q p pv v m)))
+      (λ m. ap isDense (st .still-kind v (eqb-false v p e) m)))
+
   -- a live element is the new one, or was live and is not taken
   pub live-cases : (P : Type 0) (e : ℕ) → Live t e → (e ≡ p → P) → (e ≢ p → member e (collected g p) ≡ false → Live g e → isTaken aggressive g p e ≡ false → P) → P
   live-cases P e h f k =

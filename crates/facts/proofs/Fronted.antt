@@ -3,31 +3,31 @@
 -- Assumes nothing.
 use Prim.Native.Nat.{ℕ, _<_}
 use native.Mathlib.Omega.{arith}
-use mathlib.Core.Path.{_≡_, refl, sym, ap, _∙_}
+use mathlib.Core.Path.{_≡_, sym, ap, _∙_}
 use mathlib.Core.Logic.{_≢_}
 use mathlib.Core.Bool.{Bool, true, false, cond}
-use mathlib.Core.List.{List, [], _∷_}
+use mathlib.Core.List.{List, []}
 use lib.Dec.{eqb}
-use lib.ListN.{length, set, getD, length-set}
+use lib.ListN.{length, set, length-set}
 use lib.Seq.{getD-set-same, getD-set-other}
 use borrow.Author.Tests.{eqb-true, eqb-false, lt-ltb}
 use Rattle.plain.proofs.Fibres.{total-fibres}
 use Rattle.plain.proofs.Logic.{either, clash, eqb-comm}
-use Rattle.plain.proofs.Members.{member-kept, kept-both, upTo-below, member-upTo, no-member}
+use Rattle.plain.proofs.Members.{member-kept, kept-both, upTo-below, member-upTo}
 use Rattle.plain.proofs.Repeats.{distinct-keep, distinct-countUp}
 use Rattle.plain.proofs.Sums.{total-members, total-keep, total-ones}
 use Rattle.plain.specs.Lists.{member, keep, total, upTo}
 use Rattle.plain.specs.Members.{In, Distinct, same}
-use Rattle.definition.specs.State.{Graph, kind, weight, elementsOf, variablesOf, parent, degree, rep, rowCount, hasWeight, isVariable, isElement, isDense}
+use Rattle.definition.specs.State.{Graph, kind, weight, variablesOf, degree, rep, rowCount, hasWeight, isVariable, isElement, isDense}
 use Rattle.definition.specs.Pivot.{collected}
-use Rattle.facts.proofs.Belonging.{Belonging, row-cases, was-dense}
-use Rattle.facts.proofs.Cases.{live-cases, pivot-no-var, pivot-live, members-same, collected-no-element}
+use Rattle.facts.proofs.Belonging.{Belonging, row-cases}
+use Rattle.facts.proofs.Cases.{live-cases, pivot-no-var, pivot-live, members-same, collected-no-element, dense-after}
 use Rattle.facts.proofs.Collected.{collected-var}
 use Rattle.facts.proofs.Facts.{mass-elements}
-use Rattle.facts.proofs.Followed.{Heir, Followed}
+use Rattle.facts.proofs.Followed.{Followed}
 use Rattle.facts.proofs.Invariant.{var-inside, var-not-dense}
 use Rattle.facts.proofs.Preserved.{quotient-after, in-pivot, pivot-no-member, members-closed}
-use Rattle.facts.proofs.Stepped.{isMass, isTaken, After, away, remains, Stepped}
+use Rattle.facts.proofs.Stepped.{isTaken, After, away, remains, Stepped}
 use Rattle.facts.proofs.Weighing.{Weighing}
 use Rattle.facts.specs.History.{frontAt, frontOf}
 use Rattle.facts.specs.Invariant.{Var, Live, Quotient}
@@ -162,5 +162,5 @@ module _ {n : ℕ} {aggressive : Bool} {g t : Graph} {p : ℕ} (q : Quotient n g
           either (isDense (kind t v) ≡ false) (isDense (kind t v))
           (λ d. let y = b .alone v (z .0) d in var-not-dense (kind t v) (ap (λ (r : ℕ). isVariable (kind t r)) (sym y) ∙ pivot-var (rep t v) (z .1)))
           (λ d. d))
-          (λ ne k. was-dense q pv st f v ∙ fd .ordered e v k);
+          (λ ne k. dense-after q pv st v ∙ fd .ordered e v k);
     }

@@ -2,15 +2,15 @@
 -- belongs to. Kept by a step.
 -- Assumes nothing.
 use Prim.Native.Nat.{ℕ, _<_}
-use mathlib.Core.Path.{_≡_, refl, sym, ap, _∙_}
+use mathlib.Core.Path.{_≡_, sym, ap, _∙_}
 use mathlib.Core.Logic.{_≢_}
 use mathlib.Core.Bool.{Bool, true, false}
-use mathlib.Core.List.{List, [], _∷_, _++_}
+use mathlib.Core.List.{List}
 use lib.Dec.{eqb}
 use lib.ListN.{set}
 use borrow.Author.Tests.{eqb-true, eqb-false}
 use Rattle.plain.proofs.Logic.{either, clash, and-left, and-right, or-left, or-cases}
-use Rattle.plain.proofs.Members.{member-append, member-left, member-right, member-here, member-there, member-rotate, append-either, none-of}
+use Rattle.plain.proofs.Members.{member-append, member-left, member-right, member-here, member-there, member-rotate, none-of}
 use Rattle.plain.specs.Lists.{member, rotate, isEmpty}
 use Rattle.plain.specs.Members.{In}
 use Rattle.definition.specs.State.{Graph, kind, elementsOf, variablesOf, rep, isVariable, isElement}
@@ -19,12 +19,12 @@ use Rattle.facts.proofs.Belonging.{row-cases}
 use Rattle.facts.proofs.Cases.{element-apart, element-outside}
 use Rattle.facts.proofs.Collected.{collected-var, from-variables}
 use Rattle.facts.proofs.Facts.{kept-element, untaken-kept, kept-variable, variable-kept}
-use Rattle.facts.proofs.Followed.{Heir, Followed}
+use Rattle.facts.proofs.Followed.{Followed}
 use Rattle.facts.proofs.Fronted.{Fronted, front-has, front-other, front-pivot, pivot-has}
 use Rattle.facts.proofs.Invariant.{var-not-element}
 use Rattle.facts.proofs.Preserved.{quotient-after}
 use Rattle.facts.proofs.Raised.{element-stays, taken-members}
-use Rattle.facts.proofs.Stepped.{keptE, keptV, isMass, isTaken, Stepped}
+use Rattle.facts.proofs.Stepped.{keptE, keptV, isTaken, Stepped}
 use Rattle.facts.specs.History.{frontAt, frontOf}
 use Rattle.facts.specs.Invariant.{Var, Quotient}
 

@@ -1,11 +1,11 @@
 -- Steps 4 and 5: whom each row belongs to after them. Mass elimination gives to the pivot what belonged to a variable; a merge gives it to a row of equal lists.
 -- Assumes nothing.
-use Prim.Native.Nat.{ℕ, _+_, _<_}
+use Prim.Native.Nat.{ℕ, _<_}
 use native.Mathlib.Omega.{arith}
 use mathlib.Core.Path.{_≡_, refl, sym, ap, _∙_}
 use mathlib.Core.Logic.{_≢_}
 use mathlib.Core.Bool.{Bool, true, false, cond, _&&_}
-use mathlib.Core.List.{List, [], _∷_, _++_, foldl, reverse}
+use mathlib.Core.List.{List, [], _∷_, foldl, reverse}
 use mathlib.Core.Option.{none, some}
 use lib.Dec.{eqb}
 use lib.ListN.{getD}
@@ -18,7 +18,7 @@ use Rattle.plain.proofs.Repeats.{distinct-keep, distinct-reverse}
 use Rattle.plain.specs.Lists.{member, keep}
 use Rattle.plain.specs.Members.{Distinct, Within}
 use Rattle.definition.specs.State.{Graph, weight, parent, rep, hasWeight, putKind, putReps, putParent, putWeight, putElements, putVariables, putDegree, mergeInto}
-use Rattle.definition.specs.Trim.{trimOne, trimTo, trimmed, relist, dropElement, keptElements, keptVariables, droppedElements}
+use Rattle.definition.specs.Trim.{trimOne, trimTo, relist, dropElement, keptElements, keptVariables, droppedElements}
 use Rattle.definition.specs.Merge.{entriesOf, key, sameLists, alike, mergeOne, mergeAll, mergedAlike}
 use Rattle.facts.proofs.Merging.{weight-into, weight-gone, weight-kept, parent-kept, elements-kept, variables-kept}
 use Rattle.facts.proofs.Rows.{same-dropped, nothingKept}
@@ -30,7 +30,7 @@ use Rattle.facts.specs.Invariant.{Sized}
 
 pub rep-into : {n : ℕ} (i j v : ℕ) (h : Graph) → Sized n h → v < n → rep (mergeInto i j h) v ≡ cond (eqb (rep h v) j) i (rep h v)
 unfolding mergeInto putKind putReps putParent putWeight
-rep-into i j v h s l = getD-mapped (λ r. cond (eqb r j) i r) (h .reps) 0 0 v (omega (arith, s .reps))
+rep-into i j v h s l = getD-mapped (λ r. cond (eqb r j) i r) (h .reps) v 0 0 (omega (arith, s .reps))
 
 pub parent-gone : {n : ℕ} (i j : ℕ) (h : Graph) → Sized n h → j < n → parent (mergeInto i j h) j ≡ some i
 unfolding mergeInto putKind putReps putParent putWeight

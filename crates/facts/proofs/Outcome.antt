@@ -3,8 +3,8 @@
 -- Assumes nothing.
 use Prim.Native.Nat.{ℕ, _<_}
 use native.Mathlib.Omega.{arith}
-use mathlib.Core.Path.{_≡_, sym, ap, _∙_}
-use mathlib.Core.Bool.{Bool, true, false}
+use mathlib.Core.Path.{_≡_, ap, _∙_}
+use mathlib.Core.Bool.{Bool, false}
 use mathlib.Core.List.{List, [], map}
 use mathlib.Core.Option.{some}
 use lib.ListN.{length, getD}
@@ -18,7 +18,7 @@ use Rattle.definition.specs.State.{Graph, State, Kind, variable, merged, elemen
 use Rattle.definition.specs.Elimination.{finalState}
 use Rattle.definition.specs.Ordering.{permutationOf, inverseOf}
 use Rattle.definition.specs.Tree.{postorder}
-use Rattle.facts.proofs.Belonging.{Holds, asVariable, asElement, holds-inside}
+use Rattle.facts.proofs.Belonging.{Holds, asVariable, asElement}
 use Rattle.facts.proofs.Chains.{Grown, Placed}
 use Rattle.facts.proofs.Ended.{no-variable}
 use Rattle.facts.proofs.Enlisted.{final-gone}

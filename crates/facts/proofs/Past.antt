@@ -4,17 +4,16 @@ use Prim.Native.Nat.{ℕ, _<_}
 use native.Mathlib.Omega.{arith}
 use mathlib.Core.Path.{_≡_, refl, sym, ap, _∙_}
 use mathlib.Core.Logic.{_⊎_, inl, inr}
-use mathlib.Core.Bool.{Bool, true, false, cond}
+use mathlib.Core.Bool.{Bool, false}
 use mathlib.Core.List.{List, [], _∷_}
-use mathlib.Core.Option.{some}
 use lib.Dec.{eqb}
-use lib.ListN.{length, getD}
-use Rattle.plain.proofs.Logic.{none-if, clash}
+use lib.ListN.{length}
+use Rattle.plain.proofs.Logic.{none-if}
 use Rattle.plain.proofs.Members.{member-here, no-member}
 use Rattle.plain.proofs.Sums.{total-keep, total-ones}
 use Rattle.plain.specs.Lists.{member, isNone, keep, total, upTo}
 use Rattle.plain.specs.Members.{In, same}
-use Rattle.definition.specs.State.{Graph, State, variable, element, dense, rowCount, kind, weight, variablesOf, parent, rep, isVariable, isElement, isDense, started}
+use Rattle.definition.specs.State.{Graph, State, dense, rowCount, kind, rep, isVariable, isElement, isDense, started}
 use Rattle.definition.specs.Elimination.{run}
 use Rattle.facts.proofs.Belonging.{Holds, asVariable, asElement}
 use Rattle.facts.proofs.Family.{is-variable, is-element, is-dense}

@@ -9,26 +9,26 @@ use mathlib.Core.Bool.{Bool, true, false, cond, false≢true}
 use mathlib.Core.List.{List, [], _∷_, _++_}
 use mathlib.Core.Option.{Option, none, some}
 use lib.Dec.{eqb}
-use lib.ListN.{length, set}
+use lib.ListN.{set}
 use borrow.Author.Tests.{eqb-true, eqb-false}
 use Rattle.plain.proofs.Folds.{hits-where}
 use Rattle.plain.proofs.Logic.{either, clash, or-cases, or-elim, none-if}
-use Rattle.plain.proofs.Members.{member-append, member-left, member-right, member-here, append-either, member-either, no-member, not-in}
-use Rattle.plain.proofs.Positions.{position-left, position-right, position-here, position-is}
+use Rattle.plain.proofs.Members.{member-left, member-right, member-here, append-either, member-either, no-member, not-in}
+use Rattle.plain.proofs.Positions.{position-left, position-right, position-is}
 use Rattle.plain.proofs.Repeats.{distinct-snoc}
 use Rattle.plain.specs.Lists.{member, position, isNone}
 use Rattle.plain.specs.Members.{In, Distinct}
-use Rattle.definition.specs.State.{Graph, kind, weight, elementsOf, variablesOf, parent, rep, isVariable, isElement}
+use Rattle.definition.specs.State.{Graph, kind, weight, elementsOf, variablesOf, parent, rep, isElement}
 use Rattle.definition.specs.Pivot.{collected, passed}
 use Rattle.definition.specs.Trim.{droppedElements}
-use Rattle.facts.proofs.Belonging.{Belonging, row-cases}
+use Rattle.facts.proofs.Belonging.{row-cases}
 use Rattle.facts.proofs.Cases.{element-apart, element-outside, collected-no-element}
 use Rattle.facts.proofs.Collected.{collected-var}
 use Rattle.facts.proofs.Facts.{outside-untaken}
-use Rattle.facts.proofs.Followed.{Heir, Followed}
-use Rattle.facts.proofs.Fronted.{Fronted, front-has, front-cases, front-other, front-pivot, pivot-has}
+use Rattle.facts.proofs.Followed.{Followed}
+use Rattle.facts.proofs.Fronted.{Fronted, front-has, front-other, front-pivot, pivot-has}
 use Rattle.facts.proofs.Invariant.{element-inside, var-not-element}
-use Rattle.facts.proofs.Stepped.{isMass, isTaken, isDropped, Stepped, dropped-was}
+use Rattle.facts.proofs.Stepped.{isTaken, isDropped, Stepped, dropped-was}
 use Rattle.facts.specs.History.{frontAt, frontOf}
 use Rattle.facts.specs.Invariant.{Var, Live, Quotient}
 

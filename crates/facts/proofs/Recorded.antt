@@ -5,7 +5,6 @@ use Prim.Native.Nat.{ℕ, _<_}
 use mathlib.Core.Path.{_≡_, refl, sym, ap, _∙_}
 use mathlib.Core.Bool.{Bool, true, false}
 use mathlib.Core.List.{List, [], _∷_, _++_, map}
-use lib.Dec.{ltb}
 use lib.ListN.{getD, set}
 use Rattle.plain.proofs.Folds.{all-append}
 use Rattle.plain.proofs.Logic.{clash}
@@ -13,11 +12,11 @@ use Rattle.plain.proofs.Members.{member-here, member-there}
 use Rattle.plain.specs.Lists.{member}
 use Rattle.plain.specs.Members.{In, All}
 use Rattle.definition.specs.State.{Graph, State, Front, kind, weight, degree, rep, isElement, isDense}
-use Rattle.definition.specs.Pivot.{Found, nobody, found, pivot, collected}
+use Rattle.definition.specs.Pivot.{Found, nobody, found, pivot}
 use Rattle.definition.specs.Elimination.{eliminate, step}
-use Rattle.facts.proofs.Belonging.{Belonging, row-cases, was-dense, belonging-after}
-use Rattle.facts.proofs.Cases.{element-apart, element-outside}
-use Rattle.facts.proofs.Followed.{Heir, Followed, followed}
+use Rattle.facts.proofs.Belonging.{Belonging, row-cases, belonging-after}
+use Rattle.facts.proofs.Cases.{element-apart, element-outside, dense-after}
+use Rattle.facts.proofs.Followed.{Followed, followed}
 use Rattle.facts.proofs.Fronted.{Fronted, fronted-after}
 use Rattle.facts.proofs.Invariant.{var-not-element}
 use Rattle.facts.proofs.Linked.{Linked, linked-after}
@@ -119,7 +118,7 @@ module _ {n : ℕ} (keyOf : ℕ → ℕ) (aggressive : Bool) (nbrs : List (List 
       told = told-after;
       linked = λ x y lx ly m dx dy.
           linked-after q (pd .is-var) st f fs (r .fronted) x y lx ly
-          (r .linked x y lx ly m (sym (was-dense q (pd .is-var) st f x) ∙ dx) (sym (was-dense q (pd .is-var) st f y) ∙ dy));
+          (r .linked x y lx ly m (sym (dense-after q (pd .is-var) st x) ∙ dx) (sym (dense-after q (pd .is-var) st y) ∙ dy));
       lone = λ v l h m. lone-after v l h (ap (member (rep t v)) (sym born-after) ∙ m);
     }
 

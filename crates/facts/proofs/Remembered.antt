@@ -5,14 +5,14 @@ use native.Mathlib.Omega.{arith}
 use mathlib.Core.Path.{_≡_, refl, sym, ap, _∙_}
 use mathlib.Core.Bool.{Bool, true, false, false≢true}
 use mathlib.Core.List.{List, [], _∷_}
-use mathlib.Core.Option.{Option, none, some}
+use mathlib.Core.Option.{none, some}
 use lib.ListN.{length, getD, replicate, length-replicate}
-use Rattle.plain.proofs.Logic.{clash, none-if}
+use Rattle.plain.proofs.Logic.{none-if}
 use Rattle.plain.proofs.Members.{no-member}
 use Rattle.plain.proofs.Positions.{getD-same}
-use Rattle.plain.specs.Lists.{member, isNone}
+use Rattle.plain.specs.Lists.{member}
 use Rattle.plain.specs.Members.{In, All}
-use Rattle.definition.specs.State.{Graph, Kind, variable, merged, element, dense, kind, weight, variablesOf, parent, rep, isVariable, isElement, isDense, isMerged, startWeight, started}
+use Rattle.definition.specs.State.{Graph, Kind, variable, merged, element, dense, kind, parent, rep, isVariable, isElement, isDense, isMerged, startWeight, started}
 use Rattle.definition.specs.Elimination.{run, finalState}
 use Rattle.facts.proofs.Belonging.{belonging-start, rep-is}
 use Rattle.facts.proofs.Beside.{beside-keeps}

@@ -16,7 +16,7 @@ use Rattle.plain.proofs.Members.{member-kept, not-kept, not-kept-at}
 use Rattle.plain.proofs.Repeats.{distinct-keep}
 use Rattle.plain.specs.Lists.{member, keep, total}
 use Rattle.plain.specs.Members.{Distinct}
-use Rattle.definition.specs.State.{Graph, State, Front, Kind, merged, kind, weight, elementsOf, variablesOf, parent, degree, rep, hasWeight}
+use Rattle.definition.specs.State.{Graph, State, Kind, merged, kind, weight, elementsOf, variablesOf, parent, degree, rep, hasWeight}
 use Rattle.definition.specs.Pivot.{collected, passed, delisted}
 use Rattle.definition.specs.Place.{Placed, placed, asElement, newDegree}
 use Rattle.definition.specs.Elimination.{eliminate, finish}

@@ -14,7 +14,7 @@ use Rattle.plain.proofs.Folds.{foldl-keeps, all-in}
 use Rattle.plain.proofs.Logic.{either}
 use Rattle.plain.proofs.Members.{member-here, member-there, member-cases, kept-was, upTo-below, apart}
 use Rattle.plain.proofs.Sums.{total-members, total-add, total-zero}
-use Rattle.plain.specs.Lists.{member, total, upTo, keep}
+use Rattle.plain.specs.Lists.{member, total, upTo}
 use Rattle.plain.specs.Members.{In, same}
 use Rattle.definition.specs.State.{Graph, State, Kind, merged, kind, weight, rep, hasWeight, isDense, mergeInto, putElements, putVariables, putDegree}
 use Rattle.definition.specs.Pivot.{collected, passed, delisted}

@@ -104,7 +104,7 @@ module _ {n : ℕ} (keyOf : ℕ → ℕ) (aggressive : Bool) (g : Graph) (p : �
       ∙ ap (λ (b : Bool). member x (keptE aggressive g p v) || b) (member-rotate x (keptV g p v))
       ∙ sym (member-append x (keptE aggressive g p v) (keptV g p v))
 
-  distinct-entries : (v : ℕ) → member v new ≡ true → isMass aggressive g p v ≡ false → Distinct (entriesOf g2 v)
+  pub distinct-entries : (v : ℕ) → member v new ≡ true → isMass aggressive g p v ≡ false → Distinct (entriesOf g2 v)
   distinct-entries v m e =
       let vv = collected-var q p pv v m in
       rw (entries v m e)

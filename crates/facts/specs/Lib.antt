@@ -2,4 +2,6 @@
 pub mod Invariant
 pub mod History
 pub mod Past
+pub mod Accepted
+pub mod Classes
 pub mod Opened

@@ -1,8 +1,8 @@
 -- The hypotheses of the fill bound, `Ended`, `Counted` and `Tidy`, of every run from neighbourly lists: any key, any limit, aggressive on and off.
 -- Assumes nothing.
-use Prim.Native.Nat.{ℕ, _<_}
+use Prim.Native.Nat.{ℕ}
 use native.Mathlib.Omega.{arith}
-use mathlib.Core.Path.{_≡_, sym, ap, _∙_}
+use mathlib.Core.Path.{ap}
 use mathlib.Core.Bool.{Bool}
 use mathlib.Core.List.{List}
 use lib.ListN.{length}
