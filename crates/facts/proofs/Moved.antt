@@ -5,22 +5,21 @@ use native.Mathlib.Omega.{arith}
 use mathlib.Core.Path.{_≡_, refl, sym, ap, _∙_}
 use mathlib.Core.Logic.{_≢_}
 use mathlib.Core.Bool.{Bool, true, false, cond, _&&_}
-use mathlib.Core.List.{List, [], _∷_, foldl, reverse}
+use mathlib.Core.List.{List, [], _∷_, foldl}
 use mathlib.Core.Option.{none, some}
 use lib.Dec.{eqb}
 use lib.ListN.{getD}
 use lib.Seq.{getD-set-same}
 use borrow.Author.Tests.{eqb-true, eqb-false, eq-eqb, ne-eqb, ltb-true}
-use Rattle.plain.proofs.Logic.{either, cond-has, and-left, and-right}
-use Rattle.plain.proofs.Members.{no-member, member-here, member-there, member-cases, member-reverse, kept-was, kept-passes, apart, not-there, not-here}
+use Rattle.plain.proofs.Logic.{either, and-left, and-right}
+use Rattle.plain.proofs.Members.{no-member, member-cases, kept-was, kept-passes, apart, not-there, not-here}
 use Rattle.plain.proofs.Positions.{getD-mapped}
-use Rattle.plain.proofs.Repeats.{distinct-keep, distinct-reverse}
 use Rattle.plain.specs.Lists.{member, keep}
 use Rattle.plain.specs.Members.{Distinct, Within}
 use Rattle.definition.specs.State.{Graph, weight, parent, rep, hasWeight, putKind, putReps, putParent, putWeight, putElements, putVariables, putDegree, mergeInto}
 use Rattle.definition.specs.Trim.{trimOne, trimTo, relist, dropElement, keptElements, keptVariables, droppedElements}
-use Rattle.definition.specs.Merge.{entriesOf, key, sameLists, alike, mergeOne, mergeAll, mergedAlike}
-use Rattle.facts.proofs.Merging.{weight-into, weight-gone, weight-kept, parent-kept, elements-kept, variables-kept}
+use Rattle.definition.specs.Merge.{entriesOf, key, sameLists, alike, mergedAlike}
+use Rattle.facts.proofs.Merging.{merged-keeps, weight-into, weight-gone, weight-kept, parent-kept, elements-kept, variables-kept}
 use Rattle.facts.proofs.Rows.{same-dropped, nothingKept}
 use Rattle.facts.proofs.Same.{same-entries}
 use Rattle.facts.proofs.Sizes.{sized-mergeInto, sized-dropped, sized-trimOne}
@@ -101,31 +100,6 @@ module _ (aggressive : Bool) (g : Graph) (p : ℕ) (new : List ℕ) where
       rep-turns v l ws (trimOne aggressive g p new h w) (sized-trimOne aggressive g p new h w s) ∙ ap (chased mass p ws) (rep-turn v l h w s)
 
 -- ---- step 5
-
--- what each merge keeps, all of them keep
-module _ (P : Graph → Type 0) (keyOf : ℕ → ℕ) (vs : List ℕ)
-    (merge : (i j : ℕ) (h : Graph) → member i vs ≡ true → member j vs ≡ true → i ≢ j → alike keyOf h i j ≡ true → P h → P (mergeInto i j h)) where
-  keeps-one : (i : ℕ) (js : List ℕ) (h : Graph) → member i vs ≡ true → member i js ≡ false → Within js vs → P h → P (foldl (mergeOne keyOf i) h js)
-  unfolding mergeOne
-  keeps-one i [] h mi ni w k = k
-  keeps-one i (j ∷ js) h mi ni w k =
-      keeps-one i js _ mi (not-there i j js ni) (λ x m. w x (member-there x j js m))
-      (cond-has P (alike keyOf h i j) (λ e. merge i j h mi (w j (member-here j js)) (not-here i j js ni) e k) (λ e. k))
-
-  keeps-all : (js : List ℕ) (h : Graph) → Distinct js → Within js vs → P h → P (mergeAll keyOf js h)
-  unfolding mergeAll
-  keeps-all [] h d w k = k
-  keeps-all (i ∷ js) h d w k =
-      keeps-all js _ (d .1) (λ x m. w x (member-there x i js m))
-      (keeps-one i js h (w i (member-here i js)) (d .0) (λ x m. w x (member-there x i js m)) k)
-
-pub merged-keeps : (P : Graph → Type 0) (keyOf : ℕ → ℕ) (new : List ℕ) (g : Graph) → Distinct new
-    → ((i j : ℕ) (h : Graph) → member i (keep (hasWeight g) new) ≡ true → member j (keep (hasWeight g) new) ≡ true → i ≢ j → alike keyOf h i j ≡ true → P h → P (mergeInto i j h))
-    → P g → P (mergedAlike keyOf new g)
-unfolding mergedAlike
-merged-keeps P keyOf new g d merge k =
-    let vs = keep (hasWeight g) new in
-    keeps-all P keyOf vs merge (reverse vs) g (distinct-reverse vs (distinct-keep (hasWeight g) new d)) (λ x m. sym (member-reverse x vs) ∙ m) k
 
 pub record Moved (n : ℕ) (vs : List ℕ) (g h : Graph) : Type 0 where
   pub sized : Sized n h

@@ -22,8 +22,8 @@ use Rattle.definition.specs.Trim.{trimOne, trimTo, trimmed, relist, dropElement
 use Rattle.definition.specs.Elimination.{eliminate, finish}
 use Rattle.facts.proofs.Collected.{distinct-collected, collected-var, pivot-outside}
 use Rattle.facts.proofs.Invariant.{var-inside, var-not-dense}
-use Rattle.facts.proofs.Merging.{weight-into, weight-gone, weight-kept, kind-gone, kind-kept}
-use Rattle.facts.proofs.Moved.{rep-into, merged-keeps}
+use Rattle.facts.proofs.Merging.{merged-keeps, weight-into, weight-gone, weight-kept, kind-gone, kind-kept}
+use Rattle.facts.proofs.Moved.{rep-into}
 use Rattle.facts.proofs.Rows.{SameRows, same-passed, same-dropped, nothingKept}
 use Rattle.facts.proofs.Sizes.{sized-mergeInto, sized-dropped, sized-trimOne}
 use Rattle.facts.proofs.Step.{survivorsOf, restOf, startOf, weight-t, rep-t, kind-t}
