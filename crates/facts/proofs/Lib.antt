@@ -51,6 +51,7 @@ pub mod Postorder
 pub mod Permuted
 pub mod Blocks
 pub mod Outcome
+pub mod Ordered
 pub mod Keys
 pub mod Classes
 pub mod Tops

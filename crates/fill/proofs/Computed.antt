@@ -1,4 +1,4 @@
--- The hypotheses `Ended`, `Counted` and `Tidy`, computed at the end of small runs: they can be met, and no field of them is false there. No proof rests on it.
+-- The hypotheses `Ended`, `Counted` and `Tidy`, computed at the end of small runs: no field of them says too little there. Discharged proves them; nothing rests on this.
 -- Assumes nothing.
 use Prim.Native.Nat.{ℕ}
 use mathlib.Core.Path.{_≡_, refl}

@@ -1,5 +1,5 @@
 -- What the fill bound takes of the end of a run. H0, H1, H2, H4, H5 are those of Past; the others are W1, A2, and how elements are born.
--- Nothing of it is proved here. H3 is not needed: at the end nothing is active, so that H1 says it.
+-- Discharged proves it of every run from neighbourly lists. H3 is not needed: at the end nothing is active, so that H1 says it.
 -- Assumes nothing.
 use Prim.Native.Nat.{ℕ, _<_}
 use native.Mathlib.Omega.{arith}

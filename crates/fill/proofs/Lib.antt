@@ -15,3 +15,5 @@ pub mod Fronts
 pub mod Computed
 pub mod Expected
 pub mod Discharged
+pub mod Arranged
+pub mod Certain
