@@ -13,7 +13,7 @@ use lib.ListN.{getD}
 use borrow.Author.Tests.{eq-eqb, lt-ltb, le-ltb}
 use Rattle.plain.proofs.Folds.{hits, hits-at}
 use Rattle.plain.proofs.Logic.{either, clash, and-both, or-right}
-use Rattle.plain.proofs.Members.{member-kept, kept-was, not-kept, not-kept-at}
+use Rattle.plain.proofs.Members.{member-here, member-there, member-kept, kept-was, not-kept, not-kept-at}
 use Rattle.plain.specs.Lists.{member, keep}
 use Rattle.plain.specs.Members.{Within}
 use Rattle.definition.specs.State.{Graph, State, weight, elementsOf, parent, rep, hasWeight, isVariable, kind}
@@ -44,8 +44,8 @@ pub record Followed (n : ℕ) (aggressive : Bool) (g t : Graph) (p : ℕ) : Type
   pub of-kept : (r : ℕ) → member r (collected g p) ≡ true → isMass aggressive g p r ≡ false → Heir aggressive g t p r (goes r)
   pub of-survivor : (r : ℕ) → member r (collected g p) ≡ true → Var t r → goes r ≡ r
   pub of-other : (r : ℕ) → r ≢ p → member r (collected g p) ≡ false → goes r ≡ r
-  -- what is no variable any more was merged into something
-  pub lost : (r : ℕ) → member r (collected g p) ≡ true → isVariable (kind t r) ≡ false → (i : ℕ) × (parent t r ≡ some i)
+  -- what is no variable any more was merged into the pivot or a collected row, and goes where that goes
+  pub lost : (r : ℕ) → member r (collected g p) ≡ true → isVariable (kind t r) ≡ false → (i : ℕ) × (member i (p ∷ collected g p) ≡ true) × (parent t r ≡ some i) × (goes r ≡ goes i)
 
 module _ {n : ℕ} (keyOf : ℕ → ℕ) (aggressive : Bool) (g : Graph) (p : ℕ) (q : Quotient n g) (pv : Var g p) where
   abbrev g2 : Graph
@@ -114,6 +114,9 @@ module _ {n : ℕ} (keyOf : ℕ → ℕ) (aggressive : Bool) (g : Graph) (p : �
     st : Stepped n aggressive g t p
     st = stepped-t keyOf aggressive g p q pv left queues least
 
+    abbrev Lost : ℕ → Type 0
+    Lost r = (i : ℕ) × (member i (p ∷ new) ≡ true) × (parent t r ≡ some i) × (goes3 r ≡ goes3 i)
+
     pub followed-t : Followed n aggressive g t p
     followed-t = record {
       goes = goes3;
@@ -123,8 +126,8 @@ module _ {n : ℕ} (keyOf : ℕ → ℕ) (aggressive : Bool) (g : Graph) (p : �
       of-kept = λ r m e. rw (kept3 r e) (heir r m e);
       of-survivor = λ r m h. fixed r m h (st .after r m);
       of-other = λ r ne m. stays3 r m;
-      lost = λ r m h. either ((i : ℕ) × (parent t r ≡ some i)) (isMass aggressive g p r)
-          (λ e. (p, parent-t keyOf aggressive g p q pv left queues least r ∙ mass-parent r m e))
+      lost = λ r m h. either (Lost r) (isMass aggressive g p r)
+          (λ e. (p, member-here p new, parent-t keyOf aggressive g p q pv left queues least r ∙ mass-parent r m e, mass3 r m e ∙ sym (stays3 p (pivot-outside g p))))
           (λ e. gone r m e h (st .after r m));
     }
       where
@@ -155,10 +158,15 @@ module _ {n : ℕ} (keyOf : ℕ → ℕ) (aggressive : Bool) (g : Graph) (p : �
         fixed r m h (remains a b c d) =
             kept3 r a ∙ moved2 .fixed r (inside2 r m a) (omega (arith, weight3 r, q .heavy r (collected-var q p pv r m)))
 
-        gone : (r : ℕ) → member r new ≡ true → isMass aggressive g p r ≡ false → isVariable (kind t r) ≡ false → After aggressive g t p r → (i : ℕ) × (parent t r ≡ some i)
+        gone : (r : ℕ) → member r new ≡ true → isMass aggressive g p r ≡ false → isVariable (kind t r) ≡ false → After aggressive g t p r → Lost r
         gone r m e h (away a b) =
             let z = moved2 .lost r (inside2 r m e) (sym (weight3 r) ∙ b) in
-            (z .0, parent-t keyOf aggressive g p q pv left queues least r ∙ z .1)
+            let i = z .0 in (
+              i,
+              member-there i p new (kept-was i (hasWeight g2) new (z .1)),
+              parent-t keyOf aggressive g p q pv left queues least r ∙ z .2,
+              kept3 r e ∙ z .3 ∙ sym (kept3 i (compared-mass keyOf aggressive g p q pv i (z .1))),
+            )
         gone r m e h (remains a b c d) = clash (isVariable (kind t r)) (ap isVariable b ∙ collected-var q p pv r m) h
 
 pub followed : {n : ℕ} (keyOf : ℕ → ℕ) (m : ℕ) (aggressive : Bool) (s : State) (p d : ℕ) → Quotient n (s .graph) → Var (s .graph) p

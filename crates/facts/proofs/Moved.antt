@@ -112,7 +112,7 @@ pub record Moved (n : ℕ) (vs : List ℕ) (g h : Graph) : Type 0 where
   pub forth : (r : ℕ) → member r vs ≡ true → Within (entriesOf g r) (entriesOf g (goes r))
   pub back : (r : ℕ) → member r vs ≡ true → Within (entriesOf g (goes r)) (entriesOf g r)
   pub fixed : (r : ℕ) → member r vs ≡ true → 0 < weight h r → goes r ≡ r
-  pub lost : (r : ℕ) → member r vs ≡ true → weight h r ≡ 0 → (i : ℕ) × (parent h r ≡ some i)
+  pub lost : (r : ℕ) → member r vs ≡ true → weight h r ≡ 0 → (i : ℕ) × (member i vs ≡ true) × (parent h r ≡ some i) × (goes r ≡ goes i)
 
 as-before : {n : ℕ} {vs : List ℕ} {g h : Graph} (i j : ℕ) → Moved n vs g h → sameLists h i j ≡ true → sameLists g i j ≡ true
 unfolding sameLists
@@ -148,11 +148,19 @@ module _ {n : ℕ} (vs : List ℕ) (g : Graph) (l : (v : ℕ) → member v vs �
         fixed = λ r m w. either (cond (eqb (k .goes r) j) i (k .goes r) ≡ r) (eqb r j)
             (λ q. absurd (omega (arith, weight-gone i j h (k .sized) (l j mj), ap (weight (mergeInto i j h)) (eqb-true r j q))))
             (λ q. let z : k .goes r ≡ r = k .fixed r m (was-heavy r (eqb-false r j q) wi w) in rw (z, q));
-        lost = λ r m w. either ((x : ℕ) × (parent (mergeInto i j h) r ≡ some x)) (eqb r j)
-            (λ q. (i, ap (parent (mergeInto i j h)) (eqb-true r j q) ∙ parent-gone i j h (k .sized) (l j mj)))
-            (λ q. let z = k .lost r m (was-light r (eqb-false r j q) wi w) in (z .0, parent-kept i j r h (eqb-false r j q) ∙ z .1));
+        lost = λ r m w. either ((x : ℕ) × (member x vs ≡ true) × (parent (mergeInto i j h) r ≡ some x) × (cond (eqb (k .goes r) j) i (k .goes r) ≡ cond (eqb (k .goes x) j) i (k .goes x))) (eqb r j)
+            (λ q. (i, mi, ap (parent (mergeInto i j h)) (eqb-true r j q) ∙ parent-gone i j h (k .sized) (l j mj), ap (λ (x : ℕ). cond (eqb (k .goes x) j) i (k .goes x)) (eqb-true r j q) ∙ now-one wi wj))
+            (λ q. let z = k .lost r m (was-light r (eqb-false r j q) wi w) in
+            (z .0, z .1, parent-kept i j r h (eqb-false r j q) ∙ z .2, ap (λ (x : ℕ). cond (eqb x j) i x) (z .3)));
       }
     where
+      -- what belonged to j belongs to i now
+      now-one : 0 < weight h i → 0 < weight h j → cond (eqb (k .goes j) j) i (k .goes j) ≡ cond (eqb (k .goes i) j) i (k .goes i)
+      now-one wi wj =
+          let a : k .goes i ≡ i = k .fixed i mi wi in
+          let b : k .goes j ≡ j = k .fixed j mj wj in
+          rw (a, b, eq-eqb j j refl, ne-eqb i j ne)
+
       heavy : (r : ℕ) → r ≢ j → 0 < weight h i → 0 < weight h r → 0 < weight (mergeInto i j h) r
       heavy r nj wi w = either (0 < weight (mergeInto i j h) r) (eqb r i)
           (λ q. rw (eqb-true r i q, weight-into i j h (k .sized) (l i mi) ne) (omega arith))

@@ -14,11 +14,11 @@ use Rattle.plain.proofs.Positions.{position-below-bound}
 use Rattle.plain.specs.Lists.{member, position, upTo}
 use Rattle.plain.specs.Members.{In, Distinct, count}
 use Rattle.plain.specs.Permutations.{Permutation}
-use Rattle.definition.specs.State.{Graph, State, Kind, variable, merged, element, dense, rowCount, kind, parent, rep, isVariable, isElement, isDense}
+use Rattle.definition.specs.State.{Graph, State, Kind, variable, merged, element, dense, rowCount, kind, parent, rep, isVariable, isMerged, isElement, isDense}
 use Rattle.definition.specs.Elimination.{finalState}
 use Rattle.definition.specs.Ordering.{permutationOf, inverseOf}
 use Rattle.definition.specs.Tree.{postorder}
-use Rattle.facts.proofs.Belonging.{Holds, asVariable, asElement}
+use Rattle.facts.proofs.Belonging.{Holds, asVariable, asElement, Shares}
 use Rattle.facts.proofs.Chains.{Grown, Placed}
 use Rattle.facts.proofs.Ended.{no-variable}
 use Rattle.facts.proofs.Enlisted.{final-gone}
@@ -58,6 +58,10 @@ module _ (limit : ℕ) (nbrs : List (List ℕ)) (nb : Neighbourly nbrs) (keyOf :
       go : Holds g (rep g v) → (rep g v < rowCount g) × (kind g (rep g v) ≡ element)
       go (asVariable h) = clash (isVariable (kind g (rep g v))) h (no-variable s (told .inv) (final-gone limit nbrs nb keyOf aggressive) (rep g v))
       go (asElement h) = (omega (arith, final-rows, element-inside (told .inv .graph) (rep g v) h), is-element (kind g (rep g v)) h)
+
+  -- a merged row has a parent, which belongs to the same element: so parents lead to it (P6)
+  pub final-shares : (v : ℕ) → v < rowCount g → kind g v ≡ merged → Shares (length nbrs) g v
+  final-shares v l e = told .belonging .shares v (omega (arith, final-rows)) (ap isMerged e)
 
   -- a dense row belongs to itself
   pub final-alone : (v : ℕ) → v < rowCount g → kind g v ≡ dense → rep g v ≡ v

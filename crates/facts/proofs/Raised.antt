@@ -11,24 +11,21 @@ use mathlib.Core.Option.{Option, none, some}
 use lib.Dec.{eqb}
 use lib.ListN.{set}
 use borrow.Author.Tests.{eqb-true, eqb-false}
-use Rattle.plain.proofs.Folds.{hits-where}
-use Rattle.plain.proofs.Logic.{either, clash, or-cases, or-elim, none-if}
+use Rattle.plain.proofs.Logic.{either, clash, or-elim, none-if}
 use Rattle.plain.proofs.Members.{member-left, member-right, member-here, append-either, member-either, no-member, not-in}
 use Rattle.plain.proofs.Positions.{position-left, position-right, position-is}
 use Rattle.plain.proofs.Repeats.{distinct-snoc}
 use Rattle.plain.specs.Lists.{member, position, isNone}
 use Rattle.plain.specs.Members.{In, Distinct}
 use Rattle.definition.specs.State.{Graph, kind, weight, elementsOf, variablesOf, parent, rep, isElement}
-use Rattle.definition.specs.Pivot.{collected, passed}
-use Rattle.definition.specs.Trim.{droppedElements}
+use Rattle.definition.specs.Pivot.{collected}
 use Rattle.facts.proofs.Belonging.{row-cases}
-use Rattle.facts.proofs.Cases.{element-apart, element-outside, collected-no-element}
-use Rattle.facts.proofs.Collected.{collected-var}
+use Rattle.facts.proofs.Cases.{element-apart, element-outside, collected-no-element, taken-known}
 use Rattle.facts.proofs.Facts.{outside-untaken}
 use Rattle.facts.proofs.Followed.{Followed}
 use Rattle.facts.proofs.Fronted.{Fronted, front-has, front-other, front-pivot, pivot-has}
 use Rattle.facts.proofs.Invariant.{element-inside, var-not-element}
-use Rattle.facts.proofs.Stepped.{isTaken, isDropped, Stepped, dropped-was}
+use Rattle.facts.proofs.Stepped.{isTaken, Stepped}
 use Rattle.facts.specs.History.{frontAt, frontOf}
 use Rattle.facts.specs.Invariant.{Var, Live, Quotient}
 
@@ -60,14 +57,6 @@ module _ {n : ℕ} {aggressive : Bool} {g t : Graph} {p : ℕ} (q : Quotient n g
 
   pub element-stays : (e : ℕ) → isElement (kind g e) ≡ true → isElement (kind t e) ≡ true
   element-stays e h = ap isElement (st .still-kind e (element-apart q pv st e h) (element-outside q pv st e h)) ∙ h
-
-  -- who takes up what: an element that is taken is an element of a variable, so it is live and has a variable
-  pub taken-known : (e : ℕ) → isTaken aggressive g p e ≡ true → (i : ℕ) × Var g i × (member e (elementsOf g i) ≡ true)
-  taken-known e k = or-cases ((i : ℕ) × Var g i × (member e (elementsOf g i) ≡ true)) (member e (elementsOf g p)) (isDropped aggressive g p e) k
-      (λ m. (p, pv, m))
-      (λ m.
-      let r = hits-where (λ v. member e (droppedElements aggressive (passed g p) (collected g p) v)) (collected g p) m in
-      (r .0, collected-var q p pv (r .0) (r .1), dropped-was aggressive g p q pv e (r .0) (r .2)))
 
   -- the variables of an element that is taken are the pivot and collected ones: F3, and the external size of 0
   pub taken-members : (e i : ℕ) → isTaken aggressive g p e ≡ true → Var g i → member e (elementsOf g i) ≡ true → i ≢ p → member i (collected g p) ≡ true
@@ -115,7 +104,7 @@ module _ {n : ℕ} {aggressive : Bool} {g t : Graph} {p : ℕ} (q : Quotient n g
 
     taken-born : (e : ℕ) → isElement (kind g e) ≡ true → isTaken aggressive g p e ≡ true → In e born
     taken-born e h k = either (In e born) (member e born) (λ m. m)
-        (λ m. let z = taken-known e k in absurd (ra .no-variable e (z .0) h m (q .elements-have (z .0) e (z .1) (z .2))))
+        (λ m. let z = taken-known q pv st e k in absurd (ra .no-variable e (z .0) h m (q .elements-have (z .0) e (z .1) (z .2))))
 
     later' : (e c : ℕ) → isElement (kind t e) ≡ true → parent t e ≡ some c → position e born' < position c born'
     later' e c h r = parent-cases (position e born' < position c born') e c h r
@@ -137,7 +126,7 @@ module _ {n : ℕ} {aggressive : Bool} {g t : Graph} {p : ℕ} (q : Quotient n g
         (λ k ne y x.
         let iv : In v (frontOf fs e) = ap (member v) (sym (front-other q pv st f fs fd e ne)) ∙ i in
         let lv : v < n = fd .below e v iv in
-        let z = taken-known e y in
+        let z = taken-known q pv st e y in
         let le : Live g e = q .elements-live (z .0) e (z .1) (z .2) in
         let w = fd .inside e v le iv in
         let me : member e (elementsOf g (rep g v)) ≡ true = q .members-know e (rep g v) le (w .1) (w .0) in
