@@ -13,6 +13,9 @@ pub mod Placing
 pub mod Stepped
 pub mod Weights
 pub mod Step
+pub mod Moved
+pub mod Followed
+pub mod Weighing
 pub mod Facts
 pub mod Cases
 pub mod External
@@ -23,6 +26,13 @@ pub mod Pivots
 pub mod Listed
 pub mod Theorem
 pub mod Start
+pub mod Belonging
+pub mod Fronted
+pub mod Raised
+pub mod Linked
+pub mod Recorded
+pub mod Remembered
+pub mod Past
 pub mod Enlisted
 pub mod Ended
 pub mod Bounds
@@ -40,6 +50,8 @@ pub mod Family
 pub mod Postorder
 pub mod Permuted
 pub mod Blocks
+pub mod Outcome
+pub mod Ordered
 pub mod Keys
 pub mod Classes
 pub mod Tops
