@@ -10,11 +10,11 @@ use borrow.Author.Tests.{ltb-true, ltb-false, lt-ltb, le-ltb}
 use lib.Dec.{T, ltb}
 use lib.IntN.{ℤ, pos, negsuc, natAbs, _-ℤ_}
 use lib.Signed.{mag, ltZ, nonNeg}
-use lib.ListN.{getD}
+use lib.ListN.{length, getD, List·getD-eq-default}
 use mir.Syntax.{Width, w64}
 use mir.Val.{toZ, ofZ, SFits, hbits}
 use mir.Facts.{toZ-ofZ}
-use Rattle.cells.specs.View.{nat, at}
+use Rattle.cells.specs.View.{nat, at, negative}
 use Rattle.cells.specs.Links.{flipped, coded, decoded, named, linked}
 
 sign : (z : ℤ) → ltZ z (pos 0) ≡ false → T (nonNeg z) × (natAbs z ≡ nat z)
@@ -56,3 +56,13 @@ module _ (w : Width) (l : List ℤ) (i : ℕ) (h : mag (getD l i (pos 0)) < 2 ^ 
   pub at-pos : ltZ (toZ w (ofZ w (getD l i (pos 0)))) (pos 0) ≡ false → Word w (at l i) (toZ w (ofZ w (getD l i (pos 0))))
   unfolding at
   at-pos e = word-pos w (getD l i (pos 0)) h e
+
+-- its sign
+module _ (w : Width) (l : List ℤ) (i : ℕ) where
+  pub negative-read : mag (getD l i (pos 0)) < 2 ^ hbits w → ltZ (toZ w (ofZ w (getD l i (pos 0)))) (pos 0) ≡ negative l i
+  unfolding negative
+  negative-read h = ap (λ (y : ℤ). ltZ y (pos 0)) (back w (getD l i (pos 0)) h)
+
+pub negative-out : (l : List ℤ) (i : ℕ) → length l ≤ i → false ≡ negative l i
+unfolding negative
+negative-out l i h = ap (λ (y : ℤ). ltZ y (pos 0)) (sym (List·getD-eq-default l (pos 0) h))

@@ -5,7 +5,7 @@ ghost use Prim.Native.Nat.{_+_, _-_, _*_, _<_, _≤_, _^_};
 ghost use lib.ListN.{length, replicate, getD};
 ghost use lib.IntN.{pos};
 ghost use lib.Signed.{mag};
-ghost use Rattle.cells.specs.View.{at, wr, rd, up, Room, plus};
+ghost use Rattle.cells.specs.View.{at, wr, rd, up, Room, plus, negative};
 ghost use Rattle.cells.specs.Links.{flipped, coded, decoded, named, linked, parent, hang};
 
 // No parent, as the Rust has it.
@@ -257,6 +257,13 @@ fn load32(l: &[i32], i: usize) -> usize
 {
     let x = l[i];
     if x < 0 { 0 } else { x as usize }
+}
+
+// Is number `i` of the slice below 0?
+pub fn negative(rows: &[i32], i: usize) -> bool
+    ensures { λ r. ⌜ r ≡ negative (now (rows .entry)) i ⌝ }
+{
+    if i < rows.len() { rows[i] < 0 } else { false }
 }
 
 // Number `i` of the slice becomes `v`; nothing is done past the end.
