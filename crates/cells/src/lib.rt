@@ -109,10 +109,10 @@ pub fn copy_cell(l: &mut [i64], p: usize, e: usize)
 pub fn clear(l: &mut [i64])
     ensures { λ _. ⌜ now (l .exit) ≡ replicate (length (now (l .entry))) (pos 0) ⌝ }
 {
-    let mut i = 0;
-    while i < l.len() {
-        l[i] = 0;
-        i += 1;
+    let mut left = l.len();
+    while 0 < left {
+        left -= 1;
+        l[left] = 0;
     }
 }
 
