@@ -1,0 +1,2 @@
+-- The definitions that the contracts of `tree` cite.
+pub mod Model
