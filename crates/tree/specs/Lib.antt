@@ -1,2 +1,3 @@
 -- The definitions that the contracts of `tree` cite.
 pub mod Model
+pub mod Hanging
