@@ -2,3 +2,4 @@
 pub mod Steps
 pub mod Sheet
 pub mod Touring
+pub mod Threads
