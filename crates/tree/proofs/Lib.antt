@@ -3,3 +3,5 @@ pub mod Steps
 pub mod Sheet
 pub mod Touring
 pub mod Threads
+pub mod Lists
+pub mod Largest
