@@ -5,3 +5,4 @@ pub mod Touring
 pub mod Threads
 pub mod Lists
 pub mod Largest
+pub mod Owners
