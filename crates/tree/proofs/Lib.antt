@@ -6,3 +6,4 @@ pub mod Threads
 pub mod Lists
 pub mod Largest
 pub mod Owners
+pub mod Ready
