@@ -7,3 +7,5 @@ pub mod Lists
 pub mod Largest
 pub mod Owners
 pub mod Ready
+pub mod Kin
+pub mod Prepared
