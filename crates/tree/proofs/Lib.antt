@@ -9,3 +9,5 @@ pub mod Owners
 pub mod Ready
 pub mod Kin
 pub mod Prepared
+pub mod Grove
+pub mod Written
