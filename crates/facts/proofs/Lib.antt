@@ -57,3 +57,4 @@ pub mod Classes
 pub mod Tops
 pub mod Buckets
 pub mod Absorbing
+pub mod Unparented
