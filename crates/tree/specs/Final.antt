@@ -2,9 +2,9 @@
 -- Assumes nothing.
 use Prim.Native.Nat.{ℕ, _≤_, _<_}
 use mathlib.Core.Path.{_≡_}
-use mathlib.Core.List.{List}
+use mathlib.Core.List.{List, map}
 use mathlib.Core.Option.{none, some}
-use lib.IntN.{ℤ}
+use lib.IntN.{ℤ, pos}
 use lib.ListN.{length, getD}
 use Rattle.plain.specs.Lists.{position}
 use Rattle.plain.specs.Members.{In, Distinct}
@@ -12,6 +12,7 @@ use Rattle.plain.specs.Turns.{entries}
 use Rattle.definition.specs.State.{Graph, variable, merged, element, dense, rowCount, kind, weight, rep}
 use Rattle.definition.specs.State as state
 use Rattle.definition.specs.Tree.{sizeOf}
+use Rattle.definition.specs.Ordering.{permutationOf, inverseOf}
 use Rattle.cells.specs.Layout.{ELEN, MERGES, NV}
 use Rattle.cells.specs.Links.{parent}
 use Rattle.cells.specs.View.{rd, Room}
@@ -42,3 +43,8 @@ pub record Ended (n : ℕ) (g : Graph) (rank : ℕ → ℕ) : Type 0 where
   pub light-merged : (v : ℕ) → v < n → kind g v ≡ merged → weight g v ≡ 0
   pub light-dense : (v : ℕ) → v < n → kind g v ≡ dense → weight g v ≡ 0
   pub free : (v : ℕ) → v < n → kind g v ≡ dense → state.parent g v ≡ none
+
+-- what the outputs p and i become, of a memory s whose log has k merges: the permutation of every graph that the memory belongs to, and its inverse
+pub record Outputs (n k : ℕ) (s p i p′ i′ : List ℤ) : Type 0 where
+  pub given : (g : Graph) (rank : ℕ → ℕ) (ms : List ℕ) → length ms ≡ k → Final n s g ms → Ended n g rank → length p ≡ n → length i ≡ n
+      → (p′ ≡ map pos (permutationOf g)) × (i′ ≡ map pos (inverseOf (permutationOf g)))

@@ -5,7 +5,8 @@ ghost use mathlib.Core.Path.{_≡_};
 ghost use Prim.Native.Nat.{_<_, _≤_, _^_};
 ghost use Rattle.cells.specs.Links.{linked, parent};
 ghost use Rattle.cells.specs.View.{Room, rd, up};
-ghost use Rattle.tree.specs.Model.{above, owned, ownedAll, blankOne, blanked, asLarge, measuredUnder, measuredOne, measured, largestOf, classOf, listed, threadedOne, threaded, prepared, sheets, placed, tour, Small, deeper, top, higher, stepped, walked, ordered};
+ghost use Rattle.tree.specs.Final.{Outputs};
+ghost use Rattle.tree.specs.Model.{above, owned, ownedAll, blankOne, blanked, asLarge, measuredUnder, measuredOne, measured, largestOf, classOf, listed, threadedOne, threaded, prepared, sheets, placed, tour, Small, deeper, top, higher, stepped, walked};
 
 // The first child of each element: the table that had the pointers of the pattern is `cells::column`. The largest child stands where the stack will be.
 const LARGEST: usize = 10;
@@ -281,7 +282,7 @@ pub fn order_tree(
     inverse: &mut [i32],
 )
     requires { ⌜ Room n (now s) × (n < 2 ^ 31) ⌝ }
-    ensures { λ _. ⌜ sheets (now (permutation .exit)) (now (inverse .exit)) ≡ ordered n count (now (s .entry)) (sheets (now (permutation .entry)) (now (inverse .entry))) ⌝ }
+    ensures { λ _. ⌜ Outputs n count (now (s .entry)) (now (permutation .entry)) (now (inverse .entry)) (now (permutation .exit)) (now (inverse .exit)) ⌝ }
 {
     own_all(s, n, count);
     prepare(s, n);

@@ -1,5 +1,5 @@
 -- `tree::order_tree` meets its contract. Assumes nothing.
-use Rattle.tree.proofs.Steps.{order-is}
+use Rattle.tree.proofs.Written.{outputs}
 use borrow.Author.Needs.{needs}
 use Rattle.tree.proofs.order_tree.Statement.{statement}
 use Rattle.tree.proofs.order_tree.Tie as tie
@@ -23,7 +23,7 @@ same-length-3 : tie.Need-same-length-3
 same-length-3 c = search needs
 
 returns : tie.Need-returns
-returns c = search (needs, order-is)
+returns c = search (needs, outputs)
 
 pub order-tree-spec : {M : Type 1} → statement M
 order-tree-spec =
