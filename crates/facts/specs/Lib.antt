@@ -1,5 +1,6 @@
 -- What theorems about the elimination speak of: its invariant, and what is remembered of a run beside it.
 pub mod Invariant
+pub mod Counter
 pub mod History
 pub mod Past
 pub mod Accepted
