@@ -34,3 +34,5 @@ pub mod Family
 pub mod Postorder
 pub mod Permuted
 pub mod Blocks
+pub mod Weighed
+pub mod Places
