@@ -36,3 +36,5 @@ pub mod Permuted
 pub mod Blocks
 pub mod Weighed
 pub mod Places
+pub mod Reading
+pub mod Storing

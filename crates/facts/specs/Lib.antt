@@ -2,4 +2,5 @@
 pub mod Invariant
 pub mod History
 pub mod Past
+pub mod Reading
 pub mod Opened
