@@ -38,3 +38,4 @@ pub mod Weighed
 pub mod Places
 pub mod Reading
 pub mod Storing
+pub mod Collections
