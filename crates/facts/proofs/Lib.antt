@@ -39,3 +39,4 @@ pub mod Places
 pub mod Reading
 pub mod Storing
 pub mod Collections
+pub mod Dense

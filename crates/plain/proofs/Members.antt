@@ -143,6 +143,12 @@ pub delete-apart : (x y : ℕ) (ys : List ℕ) → member y (delete x ys) ≡ tr
 unfolding delete
 delete-apart x y ys h = eqb-false x y (not-back (eqb x y) (kept-passes y (λ z. not (eqb x z)) ys h))
 
+-- tests that agree on the list keep the same
+pub keep-same : (a b : ℕ → Bool) (xs : List ℕ) → ((x : ℕ) → member x xs ≡ true → a x ≡ b x) → keep a xs ≡ keep b xs
+unfolding keep
+keep-same a b [] h = refl
+keep-same a b (x ∷ xs) h = rw (h x (member-here x xs), keep-same a b xs (λ y m. h y (member-there y x xs m)))
+
 -- ---- in another order
 
 pub member-rotate : (x : ℕ) (xs : List ℕ) → member x (rotate xs) ≡ member x xs
