@@ -40,3 +40,4 @@ pub mod Reading
 pub mod Storing
 pub mod Collections
 pub mod Dense
+pub mod Totals
