@@ -145,12 +145,20 @@ fronts-rise keyOf n aggressive s p d = length-append (s .fronts) _ ∙ omega ari
 
 -- ---- the run
 
-module _ (nbrs : List (List ℕ)) (nb : Neighbourly nbrs) (keyOf : ℕ → ℕ) (aggressive : Bool) (limit size : ℕ) where
-  abbrev pub roomAfter : ℕ → Room
-  roomAfter k = beside (roomStep size) keyOf k (length nbrs) aggressive (started limit nbrs) (record { free = total length nbrs; collections = 0 })
+-- the state after k pivots at most, and the room beside it
+abbrev pub stateAfter : (ℕ → ℕ) → Bool → ℕ → List (List ℕ) → ℕ → State
+stateAfter keyOf aggressive limit nbrs k = run keyOf k (length nbrs) aggressive (started limit nbrs)
 
-  abbrev pub stateAfter : ℕ → State
-  stateAfter k = run keyOf k (length nbrs) aggressive (started limit nbrs)
+abbrev pub roomAfter : ℕ → (ℕ → ℕ) → Bool → ℕ → List (List ℕ) → ℕ → Room
+roomAfter size keyOf aggressive limit nbrs k =
+    beside (roomStep size) keyOf k (length nbrs) aggressive (started limit nbrs) (record { free = total length nbrs; collections = 0 })
+
+module _ (nbrs : List (List ℕ)) (nb : Neighbourly nbrs) (keyOf : ℕ → ℕ) (aggressive : Bool) (limit size : ℕ) where
+  abbrev after : ℕ → State
+  after k = stateAfter keyOf aggressive limit nbrs k
+
+  abbrev room : ℕ → Room
+  room k = roomAfter size keyOf aggressive limit nbrs k
 
   -- what the steps keep, of a state and the room beside it
   record Kept (s : State) (r : Room) : Type 0 where
@@ -160,7 +168,7 @@ module _ (nbrs : List (List ℕ)) (nb : Neighbourly nbrs) (keyOf : ℕ → ℕ) 
     rows : length (s .fronts) ≤ s .gone
 
   -- R4, after any number of pivots
-  pub room-always : total length nbrs ≤ size → (k : ℕ) → roomAfter k .free ≤ size
+  pub room-always : total length nbrs ≤ size → (k : ℕ) → room k .free ≤ size
   room-always enough k =
       told-keeps keyOf aggressive (λ (s : State) (r : Room). (allPlaces (s .graph) ≤ total length nbrs) × (r .free ≤ size)) (roomStep size)
       (λ s r v w l p d pd h. (
@@ -170,12 +178,12 @@ module _ (nbrs : List (List ℕ)) (nb : Neighbourly nbrs) (keyOf : ℕ → ℕ) 
       k (started limit nbrs) (record { free = total length nbrs; collections = 0 }) (inv-start limit nbrs nb) (weighed-start limit nbrs) (places-start limit nbrs, enough) .2 .1
 
   -- R5, of the run: no more collections than pivots, and no more pivots than rows
-  pub collections-run : total length nbrs + length nbrs ≤ size → (k : ℕ) → (roomAfter k .collections ≤ length (stateAfter k .fronts)) × (length (stateAfter k .fronts) ≤ length nbrs)
+  pub collections-run : total length nbrs + length nbrs ≤ size → (k : ℕ) → (room k .collections ≤ length (after k .fronts)) × (length (after k .fronts) ≤ length nbrs)
   unfolding started
   collections-run enough k =
       let h = told-keeps keyOf aggressive Kept (roomStep size) keeps k (started limit nbrs) (record { free = total length nbrs; collections = 0 })
       (inv-start limit nbrs nb) (weighed-start limit nbrs) (record { held = places-start limit nbrs; low = omega arith; pivots = omega arith; rows = omega arith }) in
-      (h .2 .pivots, omega (arith, h .2 .rows, gone-most keyOf aggressive (stateAfter k) (h .0)))
+      (h .2 .pivots, omega (arith, h .2 .rows, gone-most keyOf aggressive (after k) (h .0)))
     where
       keeps : (s : State) (r : Room) → Inv (length nbrs) s → Weighed s → s .gone < length nbrs → (p d : ℕ) → Pivoted s p d → Kept s r
           → Kept (eliminate keyOf (length nbrs) aggressive s p d) (roomStep size s (found p d) (eliminate keyOf (length nbrs) aggressive s p d) r)

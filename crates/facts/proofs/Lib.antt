@@ -41,3 +41,4 @@ pub mod Storing
 pub mod Collections
 pub mod Dense
 pub mod Totals
+pub mod Words

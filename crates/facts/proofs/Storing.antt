@@ -141,6 +141,10 @@ module _ (size : ℕ) (g : Graph) where
 
 -- ---- of a state
 
+-- the room after a part of the reading
+abbrev pub during : ℕ → Graph → ℕ → Room → List Read → Storing
+during size g p r xs = foldl (storeOne size g p) (record { room = r; new = [] }) xs
+
 module _ {n : ℕ} (s : State) (v : Inv n s) (w : Weighed s) (p : ℕ) (pv : Var (s .graph) p) where
   abbrev g : Graph
   g = s .graph
@@ -150,32 +154,31 @@ module _ {n : ℕ} (s : State) (v : Inv n s) (w : Weighed s) (p : ℕ) (pv : Var
   reads-held = all-imply _ _ (reads g p) (λ a h. omega (arith, places-read (v .graph) (w .heavy) p pv)) (reads-within g p)
 
   module _ (has : isEmpty (elementsOf g p) ≡ false) (size : ℕ) (enough : allPlaces g ≤ size) (r : Room) (low : r .free ≤ size) where
-    -- the room after a part of the reading
-    abbrev pub during : List Read → Storing
-    during xs = foldl (storeOne size g p) (record { room = r; new = [] }) xs
+    abbrev so-far : List Read → Storing
+    so-far xs = during size g p r xs
 
     -- R2: the entry at hand is read and not yet stored, and so is the number of the first element
-    pub stored-before : (xs : List Read) (a : Read) (ys : List Read) → reads g p ≡ xs ++ (a ∷ ys) → (length (during xs .new) + 2 ≤ a .sofar) × (a .sofar ≤ allPlaces g)
+    pub stored-before : (xs : List Read) (a : Read) (ys : List Read) → reads g p ≡ xs ++ (a ∷ ys) → (length (so-far xs .new) + 2 ≤ a .sofar) × (a .sofar ≤ allPlaces g)
     stored-before xs a ys e =
         let h : Late (1 + length xs) (a ∷ ys) = late-right 1 xs (a ∷ ys) (rw e at (reads-late g p has)) in
         let k : All (λ b. b .sofar ≤ allPlaces g) (a ∷ ys) = all-right _ xs (a ∷ ys) (rw e at reads-held) in
         (omega (arith, h .0, stored-few size g p xs (record { room = r; new = [] })), k .0)
 
     -- R4: at all times
-    pub room-fits : (xs ys : List Read) → reads g p ≡ xs ++ ys → during xs .room .free ≤ size
+    pub room-fits : (xs ys : List Read) → reads g p ≡ xs ++ ys → so-far xs .room .free ≤ size
     room-fits xs ys e =
         stored-fits size g p xs (record { room = r; new = [] }) 1 (omega arith) (late-left 1 xs ys (rw e at (reads-late g p has)))
         (all-left _ xs ys (rw e at reads-held)) enough low
 
     -- R3: a collection leaves two places, so that every store is in range
     pub collected-low : (xs : List Read) (a : Read) (ys : List Read) → reads g p ≡ xs ++ (a ∷ ys)
-        → collect g (a .sofar) (length (during xs .new)) (during xs .room) .free + 2 ≤ allPlaces g
+        → collect g (a .sofar) (length (so-far xs .new)) (so-far xs .room) .free + 2 ≤ allPlaces g
     collected-low xs a ys e =
         let h = stored-before xs a ys e in
-        collect-low size g (a .sofar) (length (during xs .new)) (during xs .room) (h .0) (h .1)
+        collect-low size g (a .sofar) (length (so-far xs .new)) (so-far xs .room) (h .0) (h .1)
 
     pub store-in-range : (xs : List Read) (a : Read) (ys : List Read) → reads g p ≡ xs ++ (a ∷ ys)
-        → madeFree size g (a .sofar) (length (during xs .new)) (during xs .room) .free < size
+        → madeFree size g (a .sofar) (length (so-far xs .new)) (so-far xs .room) .free < size
     store-in-range xs a ys e =
         let h = stored-before xs a ys e in
-        made-low size g (a .sofar) (length (during xs .new)) (during xs .room) (room-fits xs (a ∷ ys) e) enough (h .0) (h .1)
+        made-low size g (a .sofar) (length (so-far xs .new)) (so-far xs .room) (room-fits xs (a ∷ ys) e) enough (h .0) (h .1)

@@ -106,15 +106,16 @@ tallied-eliminate {n} keyOf aggressive nd s v p d pd q = record {
           q .sums h mono,
         )
 
-module _ (nbrs : List (List ℕ)) (nb : Neighbourly nbrs) (limit : ℕ) where
-  abbrev pub denseCount : ℕ
-  denseCount = length (denseRows (started limit nbrs .graph))
+-- the dense count, from the start on
+abbrev pub denseCount : ℕ → List (List ℕ) → ℕ
+denseCount limit nbrs = length (denseRows (started limit nbrs .graph))
 
+module _ (nbrs : List (List ℕ)) (nb : Neighbourly nbrs) (limit : ℕ) where
   no-fronts : started limit nbrs .fronts ≡ []
   unfolding started
   no-fronts = refl
 
-  tallied-start : Tallied denseCount (length nbrs) (started limit nbrs)
+  tallied-start : Tallied (denseCount limit nbrs) (length nbrs) (started limit nbrs)
   unfolding total
   tallied-start = record {
     dense = dense-start limit nbrs;
@@ -122,16 +123,16 @@ module _ (nbrs : List (List ℕ)) (nb : Neighbourly nbrs) (limit : ℕ) where
     sums = λ h mono. rw no-fronts
         (omega (
           arith,
-          upTo-mono h mono (length nbrs - started limit nbrs .gone + denseCount) (length nbrs)
+          upTo-mono h mono (length nbrs - started limit nbrs .gone + denseCount limit nbrs) (length nbrs)
               (omega (arith, dense-start limit nbrs, gone-most {n = length nbrs} (λ x. x) true (started limit nbrs) (inv-start limit nbrs nb))),
         ));
   }
 
   module _ (keyOf : ℕ → ℕ) (aggressive : Bool) where
     -- Q, after any number of pivots
-    pub tallied-run : (k : ℕ) → Tallied denseCount (length nbrs) (run keyOf k (length nbrs) aggressive (started limit nbrs))
+    pub tallied-run : (k : ℕ) → Tallied (denseCount limit nbrs) (length nbrs) (run keyOf k (length nbrs) aggressive (started limit nbrs))
     tallied-run k =
-        run-keeps keyOf aggressive (Tallied denseCount (length nbrs)) (λ s v w l p d pd q. tallied-eliminate keyOf aggressive denseCount s v p d pd q)
+        run-keeps keyOf aggressive (Tallied (denseCount limit nbrs) (length nbrs)) (λ s v w l p d pd q. tallied-eliminate keyOf aggressive (denseCount limit nbrs) s v p d pd q)
         k (started limit nbrs) (inv-start limit nbrs nb) (weighed-start limit nbrs) tallied-start .2
 
 -- ---- what the statistics sum up
@@ -150,6 +151,12 @@ gains-blocks h gain same nd fronts =
       total-same (gainOf h nd) (λ e. gain (e .pivots) (e .rest + nd)) fronts (all-of _ fronts (λ e. same (e .rest + nd) (e .pivots))),
     )
 
+-- Q of the statistics at any time
+pub gains-so-far : (h : ℕ → ℕ) (gain : ℕ → ℕ → ℕ) → ((x y : ℕ) → x ≤ y → h x ≤ h y) → ((r m : ℕ) → total h (fallTo r m) ≡ gain m r) → (nd n : ℕ) (s : State) → Tallied nd n s
+    → total (λ e. gain (e .pivots) (e .rest + nd)) (s .fronts) + total h (upTo (n - s .gone + nd)) ≤ total h (upTo n)
+gains-so-far h gain mono same nd n s q =
+    omega (arith, q .sums h mono, total-same (gainOf h nd) (λ e. gain (e .pivots) (e .rest + nd)) (s .fronts) (all-of _ (s .fronts) (λ e. same (e .rest + nd) (e .pivots))))
+
 largest-below : (m b : ℕ) (bs : List Block) → b ≤ m → All (λ x. x .f + x .r ≤ m) bs → foldl (λ y x. max y (x .f + x .r)) b bs ≤ m
 largest-below m b [] l a = l
 largest-below m b (x ∷ xs) l a = largest-below m (max b (x .f + x .r)) xs (omega (arith, a .0)) (a .1)
@@ -161,15 +168,15 @@ all-blocks nd n (e ∷ es) a l = (omega (arith, a .0), all-blocks nd n es (a .1)
 
 -- ---- Q at the end
 
+abbrev pub sixAtEnd : (ℕ → ℕ) → Bool → ℕ → List (List ℕ) → Six
+sixAtEnd keyOf aggressive limit nbrs = sixOf (length (denseRows (finalState keyOf aggressive limit nbrs .graph))) (finalState keyOf aggressive limit nbrs .fronts)
+
 module _ (nbrs : List (List ℕ)) (nb : Neighbourly nbrs) (limit : ℕ) (keyOf : ℕ → ℕ) (aggressive : Bool) where
   abbrev n : ℕ
   n = length nbrs
 
   abbrev s : State
   s = finalState keyOf aggressive limit nbrs
-
-  abbrev pub sixAtEnd : Six
-  sixAtEnd = sixOf (length (denseRows (s .graph))) (s .fronts)
 
   tallied-end : Tallied (length (denseRows (s .graph))) n s
   unfolding finalState
@@ -181,28 +188,28 @@ module _ (nbrs : List (List ℕ)) (nb : Neighbourly nbrs) (limit : ℕ) (keyOf :
       let e : n - s .gone + length (denseRows (s .graph)) ≡ length (denseRows (s .graph)) = omega (arith, final-gone limit nbrs nb keyOf aggressive) in
       omega (arith, gains-blocks h gain same (length (denseRows (s .graph))) (s .fronts), tallied-end .sums h mono, ap (λ (x : ℕ). total h (upTo x)) e)
 
-  pub dense-most : sixAtEnd .nDense ≤ n
+  pub dense-most : sixAtEnd keyOf aggressive limit nbrs .nDense ≤ n
   unfolding sixOf
   dense-most = omega (arith, tallied-end .dense, final-gone limit nbrs nb keyOf aggressive)
 
-  pub lnz-most : sixAtEnd .lnz ≤ (n - 1) * n / 2
+  pub lnz-most : sixAtEnd keyOf aggressive limit nbrs .lnz ≤ (n - 1) * n / 2
   unfolding sixOf
   lnz-most = omega (arith, gains-end itself gainQ (λ x y l. l) fall-Q, sum-below n)
 
-  pub div-most : sixAtEnd .nDiv ≤ (n - 1) * n / 2
+  pub div-most : sixAtEnd keyOf aggressive limit nbrs .nDiv ≤ (n - 1) * n / 2
   unfolding sixOf
   div-most = omega (arith, gains-end itself gainQ (λ x y l. l) fall-Q, sum-below n)
 
-  pub lu-most : sixAtEnd .nMultSubsLu ≤ total square (upTo n)
+  pub lu-most : sixAtEnd keyOf aggressive limit nbrs .nMultSubsLu ≤ total square (upTo n)
   unfolding sixOf
   lu-most = gains-end square gainS square-mono fall-S
 
   -- half of the sum of the two
-  pub ldl-most : 2 * sixAtEnd .nMultSubsLdl ≤ total square (upTo n) + total itself (upTo n)
+  pub ldl-most : 2 * sixAtEnd keyOf aggressive limit nbrs .nMultSubsLdl ≤ total square (upTo n) + total itself (upTo n)
   unfolding sixOf
   ldl-most = omega (arith, gains-end triangle gainLdl triangle-mono fall-Ldl, triangles-below n)
 
-  pub d-max-most : sixAtEnd .dMax ≤ max 1 n
+  pub d-max-most : sixAtEnd keyOf aggressive limit nbrs .dMax ≤ max 1 n
   unfolding sixOf largest
   d-max-most =
       largest-below (max 1 n) 1 (blocksOf (length (denseRows (s .graph))) (s .fronts)) (omega arith)

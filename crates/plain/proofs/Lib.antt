@@ -12,3 +12,4 @@ pub mod Permutations
 pub mod Entries
 pub mod Turns
 pub mod Falling
+pub mod Products
