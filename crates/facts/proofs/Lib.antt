@@ -42,3 +42,4 @@ pub mod Collections
 pub mod Dense
 pub mod Totals
 pub mod Words
+pub mod Flags
