@@ -3,26 +3,26 @@
 use Prim.Native.Nat.{ℕ, suc, _+_, _-_, _≤_, _<_}
 use native.Mathlib.Omega.{arith}
 use mathlib.Core.Path.{_≡_, refl, sym, ap, _∙_}
-use mathlib.Core.Bool.{Bool, true, false, cond}
-use mathlib.Core.List.{List, [], _∷_, _++_, map, foldl, append-nil}
+use mathlib.Core.Bool.{Bool, true, false, cond, not}
+use mathlib.Core.List.{List, [], _∷_, foldl, append-nil}
 use lib.Dec.{ltb}
-use lib.ListN.{length, getD, length-append, length-map}
+use lib.ListN.{length, getD, length-append}
 use borrow.Author.Tests.{ltb-true, ltb-false}
 use Rattle.plain.proofs.Logic.{either}
 use Rattle.plain.proofs.Repeats.{length-missing, length-keep}
-use Rattle.plain.specs.Lists.{total, isEmpty}
+use Rattle.plain.specs.Lists.{member, keep, total, upTo, isEmpty}
 use Rattle.definition.specs.State.{Graph, State, elementsOf, variablesOf, hasWeight, started}
-use Rattle.definition.specs.Pivot.{found, collected}
-use Rattle.definition.specs.Elimination.{eliminate, finish, run, finalState, beside}
-use Rattle.definition.specs.Room.{Read, Room, Storing, allPlaces, reads, storeOne, stored, shrunk, roomStep, collectionsOf}
+use Rattle.definition.specs.Pivot.{Found, nobody, found, pivot, collected}
+use Rattle.definition.specs.Elimination.{eliminate, finish, run, beside}
+use Rattle.definition.specs.Room.{Room, Storing, places, allPlaces, reads, stored, shrunk, roomStep, collectionsOf}
 use Rattle.facts.specs.Reading.{taken, takenAt}
 use Rattle.facts.proofs.Collected.{distinct-collected, pivot-outside, collected-var}
 use Rattle.facts.proofs.Enlisted.{inv-start}
 use Rattle.facts.proofs.Invariant.{var-inside, var-weighs}
-use Rattle.facts.proofs.Pivots.{Pivoted}
-use Rattle.facts.proofs.Places.{places-start, places-eliminate}
+use Rattle.facts.proofs.Pivots.{Pivoted, pivoted}
+use Rattle.facts.proofs.Places.{places-start, places-eliminate, places-others}
 use Rattle.facts.proofs.Progress.{progress}
-use Rattle.facts.proofs.Reading.{taken-entries}
+use Rattle.facts.proofs.Reading.{taken-entries, taken-within, length-taken}
 use Rattle.facts.proofs.Start.{Neighbourly}
 use Rattle.facts.proofs.Step.{stepped}
 use Rattle.facts.proofs.Storing.{storeTaken, store-taken, stored-new, none-made, one-made, stored-behind, room-fits}
@@ -37,9 +37,6 @@ module _ (size : ℕ) (g : Graph) (p : ℕ) (r : Room) where
   unfolding stored
   stored-is = store-taken size g p (reads g p) (record { room = r; new = [] })
 
-  length-taken : length (taken g p [] (reads g p)) ≡ length (collected g p)
-  length-taken = sym (length-map (taken g p [] (reads g p)) _) ∙ ap length (taken-entries g p)
-
   -- what is stored is what is collected
   pub stored-collected : stored size g p r .new ≡ collected g p
   stored-collected = ap (λ (q : Storing). q .new) stored-is ∙ stored-new size g (taken g p [] (reads g p)) (record { room = r; new = [] }) ∙ taken-entries g p
@@ -48,8 +45,8 @@ module _ (size : ℕ) (g : Graph) (p : ℕ) (r : Room) where
   pub stored-none : r .free + length (collected g p) ≤ size
       → (stored size g p r .room .free ≡ r .free + length (collected g p)) × (stored size g p r .room .collections ≡ r .collections)
   stored-none l =
-      let h = none-made size g (taken g p [] (reads g p)) (record { room = r; new = [] }) (omega (arith, length-taken)) in
-      (ap (λ (q : Storing). q .room .free) stored-is ∙ omega (arith, h .0, length-taken), ap (λ (q : Storing). q .room .collections) stored-is ∙ h .1)
+      let h = none-made size g (taken g p [] (reads g p)) (record { room = r; new = [] }) (omega (arith, length-taken g p)) in
+      (ap (λ (q : Storing). q .room .free) stored-is ∙ omega (arith, h .0, length-taken g p), ap (λ (q : Storing). q .room .collections) stored-is ∙ h .1)
 
   -- one, and where
   pub stored-one : r .free ≤ size → size < r .free + length (collected g p)
@@ -57,8 +54,8 @@ module _ (size : ℕ) (g : Graph) (p : ℕ) (r : Room) where
       → (stored size g p r .room .free ≡ allPlaces g - getD (takenAt g p) (size - r .free) 0 + length (collected g p)) × (stored size g p r .room .collections ≡ suc (r .collections))
   unfolding takenAt
   stored-one l m k =
-      let h = one-made size g (size - r .free) (taken g p [] (reads g p)) (record { room = r; new = [] }) (omega arith) (omega (arith, length-taken)) (omega (arith, length-taken)) in
-      (ap (λ (q : Storing). q .room .free) stored-is ∙ omega (arith, h .0, length-taken), ap (λ (q : Storing). q .room .collections) stored-is ∙ h .1)
+      let h = one-made size g (size - r .free) (taken g p [] (reads g p)) (record { room = r; new = [] }) (omega arith) (omega (arith, length-taken g p)) (omega (arith, length-taken g p)) in
+      (ap (λ (q : Storing). q .room .free) stored-is ∙ omega (arith, h .0, length-taken g p), ap (λ (q : Storing). q .room .collections) stored-is ∙ h .1)
 
 -- fewer than n are collected
 pub short-collected : {n : ℕ} {g : Graph} (q : Quotient n g) (p : ℕ) (pv : Var g p) → length (collected g p) < n
@@ -108,6 +105,10 @@ module _ {n : ℕ} (s : State) (v : Inv n s) (p d : ℕ) (pv : Var (s .graph) p)
         ≡ record { free = allPlaces (s .graph) - getD (takenAt (s .graph) p) (size - r .free) 0 + length (variablesOf (t .graph) p); collections = suc (r .collections) }
     room-collected has m = room-one size s t p d r has low m (omega (arith, short-collected (v .graph) p pv))
 
+    -- the new element ends before the room does
+    pub new-fits : (k : ℕ) → allPlaces (s .graph) - k + length (collected (s .graph) p) < size
+    new-fits k = omega (arith, short-collected (v .graph) p pv)
+
     -- R5
     pub one-collection : roomStep size s (found p d) t r .collections ≤ suc (r .collections)
     one-collection =
@@ -132,6 +133,11 @@ module _ {n : ℕ} (s : State) (v : Inv n s) (p d : ℕ) (pv : Var (s .graph) p)
         ap length (stored-collected size (s .graph) p r),
       ))
 
+-- the lists that stay end before the place where the new element is put
+pub others-before : {n : ℕ} (s : State) (v : Inv n s) → Weighed s → (p : ℕ) → Var (s .graph) p → (k : ℕ) → k < length (collected (s .graph) p)
+    → total (places (s .graph)) (keep (λ x. not (member x (p ∷ elementsOf (s .graph) p))) (upTo n)) ≤ allPlaces (s .graph) - getD (takenAt (s .graph) p) k 0
+others-before s v w p pv k l = omega (arith, places-others s v w p pv, taken-within (s .graph) p k l)
+
 module _ {n : ℕ} (keyOf : ℕ → ℕ) (aggressive : Bool) where
   -- the survivors are some of the collected
   pub few-survivors : (s : State) → Inv n s → (p d : ℕ) → Pivoted s p d → length (variablesOf (eliminate keyOf n aggressive s p d .graph) p) ≤ length (collected (s .graph) p)
@@ -142,6 +148,16 @@ module _ {n : ℕ} (keyOf : ℕ → ℕ) (aggressive : Bool) where
 pub fronts-rise : (keyOf : ℕ → ℕ) (n : ℕ) (aggressive : Bool) (s : State) (p d : ℕ) → length (eliminate keyOf n aggressive s p d .fronts) ≡ suc (length (s .fronts))
 unfolding eliminate finish
 fronts-rise keyOf n aggressive s p d = length-append (s .fronts) _ ∙ omega arith
+
+-- R5, of the step that step 1 found
+pub collections-step : {n : ℕ} (s : State) → Inv n s → (size : ℕ) (r : Room) → r .free ≤ size → allPlaces (s .graph) + n ≤ size → (t : State)
+    → roomStep size s (pivot s) t r .collections ≤ suc (r .collections)
+unfolding roomStep
+collections-step s v size r low enough t = go (pivot s) refl
+  where
+    go : (f : Found) → pivot s ≡ f → roomStep size s f t r .collections ≤ suc (r .collections)
+    go nobody e = omega arith
+    go (found p d) e = one-collection s v p d (pivoted s v p d e .is-var) size r low enough t
 
 -- ---- the run
 

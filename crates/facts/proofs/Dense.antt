@@ -1,20 +1,19 @@
 -- The dense rows are the same from the start to the end, and they count among those gone.
 -- Assumes nothing.
-use Prim.Native.Nat.{ℕ, _≤_, _<_}
-use native.Mathlib.Omega.{arith}
+use Prim.Native.Nat.{ℕ, _≤_}
 use mathlib.Core.Path.{_≡_, refl, sym, ap, _∙_}
-use mathlib.Core.Bool.{Bool, true, false, _||_}
+use mathlib.Core.Bool.{Bool, _||_}
 use mathlib.Core.List.{List}
 use lib.Dec.{eqb}
 use lib.ListN.{length}
 use borrow.Author.Tests.{eqb-true, eqb-false}
 use Rattle.plain.proofs.Logic.{either, or-right}
 use Rattle.plain.proofs.Members.{keep-same, member-kept, kept-passes, kept-was, upTo-below}
-use Rattle.plain.proofs.Repeats.{distinct-keep, distinct-countUp, length-within, length-keep, length-countUp}
+use Rattle.plain.proofs.Repeats.{distinct-keep, distinct-countUp, length-within}
 use Rattle.plain.specs.Lists.{member, keep, upTo}
 use Rattle.definition.specs.State.{State, kind, isElement, isDense, startKind, atOnce, started, denseRows}
 use Rattle.definition.specs.Pivot.{collected}
-use Rattle.definition.specs.Elimination.{eliminate, run, finalState}
+use Rattle.definition.specs.Elimination.{eliminate, run}
 use Rattle.facts.proofs.Cases.{collected-not-dense}
 use Rattle.facts.proofs.Collected.{collected-var}
 use Rattle.facts.proofs.Enlisted.{inv-start}

@@ -1,19 +1,20 @@
 -- Z4: a number told beside the run that rises by 2n at most at each pivot stays below 2n for each row gone; and what the marks of a program need for that.
 -- Assumes nothing.
 use Prim.Native.Nat.{ℕ, _+_, _*_, _^_, _≤_, _<_, max}
-use native.Mathlib.Nat.{mul-suc, mul-le-mul, mul-le-mul-left, mul-assoc, mul-zero}
+use native.Mathlib.Nat.{mul-suc, mul-le-mul, mul-le-mul-left}
 use native.Mathlib.Omega.{arith}
-use mathlib.Core.Path.{_≡_, refl, sym, ap, _∙_}
+use mathlib.Core.Path.{_≡_, refl, ap}
 use mathlib.Core.Bool.{Bool, true, cond}
-use mathlib.Core.List.{List}
+use mathlib.Core.List.{List, [], _∷_}
 use lib.ListN.{length}
+use Rattle.plain.proofs.Members.{member-here}
 use Rattle.plain.proofs.Sums.{one-below}
 use Rattle.plain.specs.Lists.{member}
 use Rattle.definition.specs.State.{State, weight, degree, elementsOf, variablesOf, started}
 use Rattle.definition.specs.Pivot.{Found, found, collected, passed}
 use Rattle.definition.specs.Trim.{external}
 use Rattle.definition.specs.Elimination.{eliminate, run, beside}
-use Rattle.facts.proofs.Bounds.{weight-left, element-left}
+use Rattle.facts.proofs.Bounds.{weight-left, weight-element, element-left}
 use Rattle.facts.proofs.Cases.{live-cases, pivot-live}
 use Rattle.facts.proofs.Collected.{collected-var}
 use Rattle.facts.proofs.Collections.{short-collected, few-survivors}
@@ -86,6 +87,17 @@ module _ {n : ℕ} (s : State) (v : Inv n s) where
   -- a live element's is below n: its own pivots are gone
   pub element-most : Weighed s → (e : ℕ) → Live (s .graph) e → degree (s .graph) e < n
   element-most w e h = omega (arith, element-left s v e h, w .heavy e (h .0), w .among e (h .0))
+
+  -- Z5: a variable weighs no more than 1 and than any bound on the degrees of the live elements
+  pub weight-below : Weighed s → (m : ℕ) → ((e : ℕ) → Live (s .graph) e → degree (s .graph) e ≤ m) → (i : ℕ) → Var (s .graph) i → weight (s .graph) i ≤ max 1 m
+  weight-below w m low i h = go (elementsOf (s .graph) i) refl
+    where
+      go : (es : List ℕ) → elementsOf (s .graph) i ≡ es → weight (s .graph) i ≤ max 1 m
+      go [] x = omega (arith, w .lone i h x)
+      go (e ∷ es) x =
+          let me : member e (elementsOf (s .graph) i) ≡ true = rw x (member-here e es) in
+          let l = v .graph .elements-live i e h me in
+          omega (arith, weight-element s v e i l (v .graph .elements-have i e h me), low e l)
 
   -- an element that meets the new one has less outside it than its degree
   pub external-below : (p : ℕ) → Var (s .graph) p → (e i : ℕ) → member i (collected (s .graph) p) ≡ true → member e (elementsOf (s .graph) i) ≡ true

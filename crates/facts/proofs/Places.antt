@@ -6,33 +6,30 @@ use mathlib.Core.Path.{_≡_, refl, sym, ap, _∙_}
 use mathlib.Core.Logic.{_≢_}
 use mathlib.Core.Bool.{Bool, true, false, cond, not, _&&_}
 use mathlib.Core.List.{List, [], _∷_, _++_, foldl, flatMap}
-use mathlib.Core.Option.{Option, some}
-use lib.Dec.{ltb}
+use mathlib.Core.Option.{some}
 use lib.ListN.{length, length-append, getD}
 use borrow.Author.Tests.{lt-ltb, le-ltb}
-use Rattle.plain.proofs.Logic.{either, clash, cond-has, not-back, or-left, or-elim, or-false-left, and-both}
+use Rattle.plain.proofs.Logic.{either, cond-has, not-back, or-left, or-elim, or-false-left, and-both}
 use Rattle.plain.proofs.Members.{member-append, member-cases, kept-passes, kept-was, not-here, not-there, append-either, upTo-below}
 use Rattle.plain.proofs.Repeats.{distinct-append, length-keep, length-rotate}
-use Rattle.plain.proofs.Sums.{total-looked, total-append, total-below, total-zero, total-rows, length-flatMap}
-use Rattle.plain.specs.Lists.{member, keep, total, upTo, isNone, rotate}
+use Rattle.plain.proofs.Sums.{total-looked, total-append, total-below, total-zero, total-members, total-rows, length-flatMap}
+use Rattle.plain.specs.Lists.{member, keep, total, upTo, isNone}
 use Rattle.plain.specs.Members.{Distinct}
-use Rattle.definition.specs.State.{Graph, State, rowCount, kind, weight, elementsOf, variablesOf, parent, hasWeight, live, isElement, started}
+use Rattle.definition.specs.State.{Graph, State, kind, weight, elementsOf, variablesOf, parent, hasWeight, live, isElement, started}
 use Rattle.definition.specs.Pivot.{Found, nobody, found, pivot, candidates, collectOne, collected, wanted}
-use Rattle.definition.specs.Elimination.{eliminate, finish, step, run}
+use Rattle.definition.specs.Elimination.{eliminate, step, run}
 use Rattle.definition.specs.Room.{places, allPlaces}
 use Rattle.facts.proofs.Invariant.{var-inside, var-weighs, var-elsewhere, element-inside}
 use Rattle.facts.proofs.Collected.{distinct-collected, pivot-outside, collected-var}
 use Rattle.facts.proofs.Cases.{element-apart, element-outside}
 use Rattle.facts.proofs.Facts.{own-place}
-use Rattle.facts.proofs.Stepped.{keptE, keptV, isTaken, isMass, isDropped, After, away, remains, Stepped}
-use Rattle.facts.proofs.Stepped.{afterMerge, joined2}
-use Rattle.facts.proofs.Placing.{placed-same, element-elements}
+use Rattle.facts.proofs.Stepped.{keptE, keptV, isTaken, isDropped, After, away, remains, Stepped}
 use Rattle.facts.proofs.Sizes.{sized-started}
 use Rattle.facts.proofs.Start.{Neighbourly, elements-is, variables-is}
 use Rattle.facts.proofs.Enlisted.{inv-start}
 use Rattle.facts.proofs.Step.{stepped}
 use Rattle.facts.proofs.Pivots.{Pivoted, pivoted}
-use Rattle.facts.proofs.Weighed.{Weighed, weighed-start, run-keeps}
+use Rattle.facts.proofs.Weighed.{Weighed, weighed-start, run-keeps, pivot-elements}
 use Rattle.facts.specs.Invariant.{Var, Live, Quotient, Inv}
 
 -- ---- the places of one row
@@ -89,14 +86,17 @@ module _ {n : ℕ} {g : Graph} (q : Quotient n g) (heavy : (e : ℕ) → isEleme
   pub places-live : (e : ℕ) → Live g e → places g e ≡ length (elementsOf g e) + length (variablesOf g e)
   places-live e h = places-full g e (lt-ltb 0 (weight g e) (omega (arith, heavy e (h .0)))) (h .1)
 
+  -- an element of a variable has a place for each of its variables
+  element-places : (p : ℕ) → Var g p → total (λ e. length (variablesOf g e)) (elementsOf g p) ≤ total (places g) (elementsOf g p)
+  element-places p pv = total-below (λ e. length (variablesOf g e)) (places g) (elementsOf g p) (λ e m. omega (arith, places-live e (q .elements-live p e pv m)))
+
   -- all rows hold as many places as the pivot and its elements at least
   pub places-read : (p : ℕ) → Var g p → length (elementsOf g p) + length (variablesOf g p) + total (λ e. length (variablesOf g e)) (elementsOf g p) ≤ allPlaces g
   unfolding allPlaces total
   places-read p pv =
       let a = total-rows {n = n} (places g) (p ∷ elementsOf g p) (var-elsewhere q p p pv pv, q .distinct-elements p pv)
       (λ x m. member-cases (x < n) x p (elementsOf g p) m (λ e. rw e (var-inside q p pv)) (λ ne k. element-inside q x (q .elements-live p x pv k .0))) in
-      let b = total-below (λ e. length (variablesOf g e)) (places g) (elementsOf g p) (λ e m. omega (arith, places-live e (q .elements-live p e pv m))) in
-      rw (q .sized .weights) (omega (arith, places-var p pv))
+      rw (q .sized .weights) (omega (arith, a, element-places p pv, places-var p pv))
 
   module _ {aggressive : Bool} {t : Graph} {p : ℕ} (pv : Var g p) (st : Stepped n aggressive g t p) (own : elementsOf t p ≡ []) where
     -- the rows whose lists the step reads or changes
@@ -164,7 +164,6 @@ module _ {n : ℕ} {g : Graph} (q : Quotient n g) (heavy : (e : ℕ) → isEleme
         (or-false-left (member v (collected g p)) (member v (elementsOf g p)) (sym (member-append v (collected g p) (elementsOf g p)) ∙ not-there v p (collected g p ++ elementsOf g p) out))) in
         let d = total-below (places t) (places g) (collected g p) changed in
         let e = total-zero (places t) (elementsOf g p) passed-places in
-        let f = total-below (λ x. length (variablesOf g x)) (places g) (elementsOf g p) (λ x m. omega (arith, places-live x (q .elements-live p x pv m))) in
         rw (st .sized .weights, q .sized .weights)
         (omega (
           arith,
@@ -176,17 +175,28 @@ module _ {n : ℕ} {g : Graph} (q : Quotient n g) (heavy : (e : ℕ) → isEleme
           length-keep (hasWeight t) (collected g p),
           length-collected g p,
           places-var p pv,
+          element-places p pv,
         ))
 
 -- ---- of the states
 
--- an element has no elements
-pub pivot-elements : {n : ℕ} (keyOf : ℕ → ℕ) (m : ℕ) (aggressive : Bool) (s : State) (p d : ℕ) → Quotient n (s .graph) → Var (s .graph) p
-    → elementsOf (eliminate keyOf m aggressive s p d .graph) p ≡ []
-unfolding eliminate finish
-pivot-elements keyOf m aggressive s p d q pv =
-    ap (λ (l : List (List ℕ)). getD l p []) (placed-same _ _ _ _ .elements)
-    ∙ element-elements p _ _ (afterMerge keyOf aggressive (s .graph) p) (joined2 aggressive (s .graph) p q pv keyOf .sized) (var-inside q p pv)
+module _ {n : ℕ} (s : State) (v : Inv n s) (w : Weighed s) where
+  -- an element has no elements
+  pub places-element : (e : ℕ) → Live (s .graph) e → places (s .graph) e ≡ length (variablesOf (s .graph) e)
+  places-element e h = omega (arith, places-live (v .graph) (w .heavy) e h, ap length (w .bare e (h .0)))
+
+  -- what the others hold: the lists that stay where the pivot's and its elements' are free
+  abbrev others : ℕ → ℕ
+  others p = total (places (s .graph)) (keep (λ x. not (member x (p ∷ elementsOf (s .graph) p))) (upTo n))
+
+  pub places-others : (p : ℕ) → Var (s .graph) p
+      → others p + (length (elementsOf (s .graph) p) + length (variablesOf (s .graph) p) + total (λ e. length (variablesOf (s .graph) e)) (elementsOf (s .graph) p)) ≡ allPlaces (s .graph)
+  unfolding allPlaces total
+  places-others p pv =
+      let a = total-rows {n = n} (places (s .graph)) (p ∷ elementsOf (s .graph) p) (var-elsewhere (v .graph) p p pv pv, v .graph .distinct-elements p pv)
+      (λ x m. member-cases (x < n) x p (elementsOf (s .graph) p) m (λ e. rw e (var-inside (v .graph) p pv)) (λ ne k. element-inside (v .graph) x (v .graph .elements-live p x pv k .0))) in
+      let b = total-members (places (s .graph)) (λ e. length (variablesOf (s .graph) e)) (elementsOf (s .graph) p) (λ e m. places-element e (v .graph .elements-live p e pv m)) in
+      rw (v .graph .sized .weights) (omega (arith, a, b, places-var (v .graph) (w .heavy) p pv))
 
 pub places-start : (limit : ℕ) (nbrs : List (List ℕ)) → allPlaces (started limit nbrs .graph) ≤ total length nbrs
 unfolding allPlaces

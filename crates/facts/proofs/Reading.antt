@@ -1,12 +1,12 @@
 -- What a pivot's step reads: the candidates in order, each with the number of places read so far; and the entries at which a variable is collected.
 -- Assumes nothing.
-use Prim.Native.Nat.{ℕ, suc, _+_, _≤_, _<_}
+use Prim.Native.Nat.{ℕ, zero, suc, _+_, _≤_, _<_}
 use native.Mathlib.Omega.{arith}
 use mathlib.Core.Path.{_≡_, refl, sym, ap, _∙_}
 use mathlib.Core.Bool.{Bool, true, false, cond}
 use mathlib.Core.List.{List, [], _∷_, _++_, map, foldl, flatMap, append-nil, append-assoc, map-append}
-use lib.ListN.{length, length-append, length-map}
-use Rattle.plain.proofs.Folds.{all-append, all-imply}
+use lib.ListN.{length, getD, length-map}
+use Rattle.plain.proofs.Folds.{all-append, all-imply, all-consIf}
 use Rattle.plain.specs.Lists.{total, consIf, isEmpty}
 use Rattle.plain.specs.Members.{All}
 use Rattle.definition.specs.State.{Graph, elementsOf, variablesOf}
@@ -131,6 +131,51 @@ pub taken-entries : (g : Graph) (p : ℕ) → map (λ a. a .entry) (taken g p []
 unfolding collected
 taken-entries g p = taken-behind g p [] (reads g p) ∙ ap (foldl (collectOne g p) []) (read-entries g p)
 
+pub length-taken : (g : Graph) (p : ℕ) → length (taken g p [] (reads g p)) ≡ length (collected g p)
+length-taken g p = sym (length-map (taken g p [] (reads g p)) _) ∙ ap length (taken-entries g p)
+
 pub length-takenAt : (g : Graph) (p : ℕ) → length (takenAt g p) ≡ length (collected g p)
 unfolding takenAt
-length-takenAt g p = length-map (taken g p [] (reads g p)) _ ∙ sym (length-map (taken g p [] (reads g p)) _) ∙ ap length (taken-entries g p)
+length-takenAt g p = length-map (taken g p [] (reads g p)) _ ∙ length-taken g p
+
+-- ---- how many places have been read where the variable number k is collected, counted from 0
+
+late-lower : (c : ℕ) (xs : List Read) → Late (suc c) xs → Late c xs
+late-lower c [] h = tt
+late-lower c (a ∷ xs) h = (omega (arith, h .0), late-lower (suc c) xs (h .1))
+
+late-taken : (g : Graph) (p c : ℕ) (new : List ℕ) (xs : List Read) → Late c xs → Late c (taken g p new xs)
+unfolding taken
+late-taken g p c new [] h = tt
+late-taken g p c new (a ∷ xs) h = go (wanted g p new (a .entry)) (late-taken g p (suc c) (collectOne g p new (a .entry)) xs (h .1))
+  where
+    go : (b : Bool) → Late (suc c) (taken g p (collectOne g p new (a .entry)) xs) → Late c (consIf b a (taken g p (collectOne g p new (a .entry)) xs))
+    go true k = (h .0, k)
+    go false k = late-lower c (taken g p (collectOne g p new (a .entry)) xs) k
+
+late-at : (c : ℕ) (xs : List Read) (k : ℕ) → Late c xs → k < length xs → c + k < getD (map (λ a. a .sofar) xs) k 0
+late-at c [] k h l = absurd (omega arith)
+late-at c (a ∷ xs) zero h l = omega (arith, h .0)
+late-at c (a ∷ xs) (suc k) h l = omega (arith, late-at (suc c) xs k (h .1) (omega arith))
+
+all-taken : (P : Read → Type 0) (g : Graph) (p : ℕ) (new : List ℕ) (xs : List Read) → All P xs → All P (taken g p new xs)
+unfolding taken
+all-taken P g p new [] h = tt
+all-taken P g p new (a ∷ xs) h =
+    all-consIf P (wanted g p new (a .entry)) a (taken g p (collectOne g p new (a .entry)) xs) (λ e. h .0) (all-taken P g p (collectOne g p new (a .entry)) xs (h .1))
+
+all-at : (m : ℕ) (xs : List Read) (k : ℕ) → All (λ a. a .sofar ≤ m) xs → k < length xs → getD (map (λ a. a .sofar) xs) k 0 ≤ m
+all-at m [] k h l = absurd (omega arith)
+all-at m (a ∷ xs) zero h l = h .0
+all-at m (a ∷ xs) (suc k) h l = all-at m xs k (h .1) (omega arith)
+
+pub taken-late : (g : Graph) (p k : ℕ) → isEmpty (elementsOf g p) ≡ false → k < length (collected g p) → k + 2 ≤ getD (takenAt g p) k 0
+unfolding takenAt
+taken-late g p k h l =
+    omega (arith, late-at 1 (taken g p [] (reads g p)) k (late-taken g p 1 [] (reads g p) (reads-late g p h)) (omega (arith, length-taken g p)))
+
+pub taken-within : (g : Graph) (p k : ℕ) → k < length (collected g p)
+    → getD (takenAt g p) k 0 ≤ length (elementsOf g p) + length (variablesOf g p) + total (λ e. length (variablesOf g e)) (elementsOf g p)
+unfolding takenAt
+taken-within g p k l =
+    all-at _ (taken g p [] (reads g p)) k (all-taken _ g p [] (reads g p) (reads-within g p)) (omega (arith, length-taken g p))

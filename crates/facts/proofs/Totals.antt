@@ -1,12 +1,12 @@
 -- Q: what the statistics come to is no more than that of a full matrix, at the end and at every time before.
 -- Assumes nothing.
-use Prim.Native.Nat.{ℕ, _+_, _-_, _*_, _/_, _≤_, _<_, max}
+use Prim.Native.Nat.{ℕ, _+_, _-_, _*_, _/_, _≤_, max}
 use native.Mathlib.Omega.{arith}
 use mathlib.Core.Path.{_≡_, refl, sym, ap, _∙_}
 use mathlib.Core.Bool.{Bool, true}
 use mathlib.Core.List.{List, [], _∷_, _++_, map, foldl}
 use lib.ListN.{length}
-use Rattle.plain.proofs.Falling.{square, triangle, square-mono, triangle-mono, fall-all, fall-under, upTo-mono, sum-below, squares-below, triangles-below}
+use Rattle.plain.proofs.Falling.{square, triangle, square-mono, triangle-mono, fall-all, fall-under, upTo-mono, sum-below, triangles-below}
 use Rattle.plain.proofs.Folds.{all-append, all-of, all-imply}
 use Rattle.plain.proofs.Members.{not-kept}
 use Rattle.plain.proofs.Sums.{total-append, total-one, total-map, total-same}
@@ -29,7 +29,7 @@ use Rattle.facts.proofs.Start.{Neighbourly}
 use Rattle.facts.proofs.Step.{stepped, gone-after, survivorsOf, restOf, startOf, weight-t}
 use Rattle.facts.proofs.Stepped.{afterMerge, joined2}
 use Rattle.facts.proofs.Theorem.{inv-eliminate, gone-most}
-use Rattle.facts.proofs.Weighed.{Weighed, weighed-start, run-keeps}
+use Rattle.facts.proofs.Weighed.{weighed-start, run-keeps}
 use Rattle.facts.specs.Invariant.{Inv}
 
 -- ---- the front that a step adds

@@ -1,35 +1,40 @@
--- An element weighs as many rows as it has pivots: one at least, and no more than are gone. And what each step keeps of such states, and of what is told beside them.
+-- More of the invariant: an element weighs as many rows as it has pivots, and has no elements; a variable with no element weighs one row.
+-- And what each step keeps of such states, and of what is told beside them.
 -- Assumes nothing.
 use Prim.Native.Nat.{ℕ, _+_, _≤_, _<_}
 use native.Mathlib.Omega.{arith}
 use mathlib.Core.Path.{_≡_, refl, sym, ap, _∙_}
-use mathlib.Core.Bool.{Bool, true, false, _||_, false≢true}
-use mathlib.Core.List.{List}
-use lib.Dec.{eqb, ltb}
-use lib.ListN.{length}
+use mathlib.Core.Bool.{Bool, true, _||_, false≢true}
+use mathlib.Core.List.{List, []}
+use lib.Dec.{eqb}
+use lib.ListN.{length, getD}
 use borrow.Author.Tests.{eqb-true, eqb-false, ltb-true}
 use Rattle.plain.proofs.Logic.{either, clash, or-left}
-use Rattle.plain.proofs.Members.{member-kept, member-upTo}
+use Rattle.plain.proofs.Members.{member-kept, member-upTo, not-in}
 use Rattle.plain.proofs.Sums.{one-below, total-ones}
 use Rattle.plain.specs.Lists.{member, upTo}
-use Rattle.definition.specs.State.{Graph, State, Kind, variable, merged, element, dense, kind, weight, isElement, isDense, startKind, startWeight, atOnce, started}
+use Rattle.definition.specs.State.{Graph, State, Kind, variable, merged, element, dense, kind, weight, elementsOf, isVariable, isElement, isDense, startKind, startWeight, atOnce, started}
 use Rattle.definition.specs.Pivot.{Found, nobody, found, pivot, collected}
-use Rattle.definition.specs.Elimination.{eliminate, step, run, beside}
+use Rattle.definition.specs.Elimination.{eliminate, finish, step, run, beside}
 use Rattle.facts.proofs.Beside.{beside-keeps}
-use Rattle.facts.proofs.Cases.{collected-no-element}
-use Rattle.facts.proofs.Invariant.{var-weighs, element-not-merged}
+use Rattle.facts.proofs.Cases.{var-cases, collected-no-element}
+use Rattle.facts.proofs.Invariant.{var-inside, var-weighs, element-not-merged}
+use Rattle.facts.proofs.Placing.{placed-same, element-elements}
 use Rattle.facts.proofs.Pivots.{Pivoted, pivoted, some-pivot}
 use Rattle.facts.proofs.Progress.{progress}
-use Rattle.facts.proofs.Start.{Neighbourly, kind-in, kind-inside, weight-is}
-use Rattle.facts.proofs.Enlisted.{inv-start}
+use Rattle.facts.proofs.Start.{kind-in, kind-inside, weight-is, elements-is}
 use Rattle.facts.proofs.Step.{stepped, gone-after}
+use Rattle.facts.proofs.Stepped.{Stepped, afterMerge, joined2}
 use Rattle.facts.proofs.Theorem.{inv-eliminate}
-use Rattle.facts.specs.Invariant.{Inv}
+use Rattle.facts.specs.Invariant.{Var, Quotient, Inv}
 
--- W2, of the elements
 pub record Weighed (s : State) : Type 0 where
+  -- W2, of the elements
   pub heavy : (e : ℕ) → isElement (kind (s .graph) e) ≡ true → 1 ≤ weight (s .graph) e
   pub among : (e : ℕ) → isElement (kind (s .graph) e) ≡ true → weight (s .graph) e ≤ s .gone
+  pub bare : (e : ℕ) → isElement (kind (s .graph) e) ≡ true → elementsOf (s .graph) e ≡ []
+  -- nothing was merged into it: that would have been in an element's step
+  pub lone : (i : ℕ) → Var (s .graph) i → elementsOf (s .graph) i ≡ [] → weight (s .graph) i ≡ 1
 
 -- ---- at the start
 
@@ -39,6 +44,13 @@ element-one variable h = refl
 element-one merged h = absurd (false≢true h)
 element-one element h = refl
 element-one dense h = absurd (false≢true h)
+
+var-one : (k : Kind) → isVariable k ≡ true → startWeight k ≡ 1
+unfolding startWeight
+var-one variable h = refl
+var-one merged h = absurd (false≢true h)
+var-one element h = refl
+var-one dense h = absurd (false≢true h)
 
 some-in : (x : ℕ) (xs : List ℕ) → member x xs ≡ true → 1 ≤ length xs
 some-in x xs m = omega (arith, one-below (λ y. 1) x xs m, total-ones xs)
@@ -55,9 +67,19 @@ pub weighed-start : (limit : ℕ) (nbrs : List (List ℕ)) → Weighed (started 
 weighed-start limit nbrs = record {
   heavy = λ e h. omega (arith, weight-is limit nbrs e, element-one (kind (started limit nbrs .graph) e) h);
   among = λ e h. omega (arith, weight-is limit nbrs e, element-one (kind (started limit nbrs .graph) e) h, one-gone limit nbrs e h);
+  bare = λ e h. elements-is limit nbrs e;
+  lone = λ i h k. weight-is limit nbrs i ∙ var-one (kind (started limit nbrs .graph) i) h;
 }
 
 -- ---- after a step
+
+-- the new element has no elements
+pub pivot-elements : {n : ℕ} (keyOf : ℕ → ℕ) (m : ℕ) (aggressive : Bool) (s : State) (p d : ℕ) → Quotient n (s .graph) → Var (s .graph) p
+    → elementsOf (eliminate keyOf m aggressive s p d .graph) p ≡ []
+unfolding eliminate finish
+pivot-elements keyOf m aggressive s p d q pv =
+    ap (λ (l : List (List ℕ)). getD l p []) (placed-same _ _ _ _ .elements)
+    ∙ element-elements p _ _ (afterMerge keyOf aggressive (s .graph) p) (joined2 aggressive (s .graph) p q pv keyOf .sized) (var-inside q p pv)
 
 module _ {n : ℕ} (keyOf : ℕ → ℕ) (aggressive : Bool) where
   -- the new element has the pivot at least
@@ -70,17 +92,26 @@ module _ {n : ℕ} (keyOf : ℕ → ℕ) (aggressive : Bool) where
     heavy = λ e h. cases e h (1 ≤ weight (eliminate keyOf n aggressive s p d .graph) e) (λ x. rw x (pivot-heavy s v p d pd)) (λ k x. omega (arith, w .heavy e k));
     among = λ e h. cases e h (weight (eliminate keyOf n aggressive s p d .graph) e ≤ eliminate keyOf n aggressive s p d .gone) (λ x. rw x (omega (arith, up)))
         (λ k x. omega (arith, w .among e k, up));
+    bare = λ e h. either _ (eqb e p) (λ x. rw (eqb-true e p x) (pivot-elements keyOf n aggressive s p d (v .graph) (pd .is-var)))
+        (λ x. let ne = eqb-false e p x in
+        let out = not-in e (collected (s .graph) p) (λ m. clash (isElement (kind t e)) h (collected-no-element (v .graph) (pd .is-var) st e m)) in
+        st .still-elements e ne out ∙ w .bare e (ap isElement (sym (st .still-kind e ne out)) ∙ h));
+    lone = λ i h k. var-cases (v .graph) (pd .is-var) st _ i h
+        (λ ne m x. st .still-weight i ne m ∙ w .lone i x (sym (st .still-elements i ne m) ∙ k))
+        (λ m a b c. absurd (omega (arith, ap length (sym (st .new-elements i m a) ∙ k))));
   }
     where
       t : Graph
       t = eliminate keyOf n aggressive s p d .graph
+
+      st : Stepped n aggressive (s .graph) t p
+      st = stepped keyOf n aggressive s p d (v .graph) (pd .is-var)
 
       up : eliminate keyOf n aggressive s p d .gone ≡ s .gone + weight t p
       up = gone-after keyOf n aggressive s p d (v .graph) (pd .is-var)
 
       cases : (e : ℕ) → isElement (kind t e) ≡ true → (P : Type 0) → (e ≡ p → P) → (isElement (kind (s .graph) e) ≡ true → weight t e ≡ weight (s .graph) e → P) → P
       cases e h P a b =
-          let st = stepped keyOf n aggressive s p d (v .graph) (pd .is-var) in
           either P (eqb e p) (λ x. a (eqb-true e p x))
           (λ x.
           let ne = eqb-false e p x in

@@ -8,7 +8,7 @@ use mathlib.Core.List.{List}
 use lib.ListN.{length}
 use Rattle.plain.proofs.Falling.{square, triangle, square-mono, triangle-mono, sum-below, triangles-below}
 use Rattle.plain.proofs.Products.{pairs-most, rests-most, crossed-most, cubes-most, halved-most, whole-most, squares-most, falls-most, sums-small, squares-small}
-use Rattle.plain.specs.Lists.{total, itself, upTo}
+use Rattle.plain.specs.Lists.{total, itself}
 use Rattle.definition.specs.State.{State}
 use Rattle.definition.specs.Statistics.{gainQ, gainS, gainLdl}
 use Rattle.facts.proofs.Gains.{fall-Q, fall-S, fall-Ldl}
