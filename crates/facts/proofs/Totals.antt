@@ -5,17 +5,21 @@ use native.Mathlib.Omega.{arith}
 use mathlib.Core.Path.{_≡_, refl, sym, ap, _∙_}
 use mathlib.Core.Bool.{Bool, true}
 use mathlib.Core.List.{List, [], _∷_, _++_, map, foldl}
+use lib.Dec.{eqb}
 use lib.ListN.{length}
+use borrow.Author.Tests.{eqb-false}
 use Rattle.plain.proofs.Falling.{square, triangle, square-mono, triangle-mono, fall-all, fall-under, upTo-mono, sum-below, triangles-below}
 use Rattle.plain.proofs.Folds.{all-append, all-of, all-imply}
+use Rattle.plain.proofs.Logic.{cond-has}
 use Rattle.plain.proofs.Members.{not-kept}
 use Rattle.plain.proofs.Sums.{total-append, total-one, total-map, total-same}
 use Rattle.plain.specs.Lists.{total, itself, upTo, fallTo}
 use Rattle.plain.specs.Members.{All}
-use Rattle.definition.specs.State.{State, Front, weight, degree, hasWeight, started, denseRows}
+use Rattle.definition.specs.State.{State, Front, weight, degree, hasWeight, rowCount, started, denseRows}
 use Rattle.definition.specs.Pivot.{collected, delisted}
 use Rattle.definition.specs.Elimination.{eliminate, finish, run, finalState}
-use Rattle.definition.specs.Statistics.{gainQ, gainS, gainLdl, Block, Six, blocksOf, sumOf, largest, sixOf}
+use Rattle.definition.specs.Ordering.{plainFrom}
+use Rattle.definition.specs.Statistics.{noSix, gainQ, gainS, gainLdl, Block, Six, blocksOf, sumOf, largest, sixOf}
 use Rattle.facts.proofs.Bounds.{element-left}
 use Rattle.facts.proofs.Cases.{pivot-live}
 use Rattle.facts.proofs.Collected.{pivot-outside}
@@ -25,6 +29,7 @@ use Rattle.facts.proofs.Gains.{fall-Q, fall-S, fall-Ldl}
 use Rattle.facts.proofs.Invariant.{var-inside}
 use Rattle.facts.proofs.Pivots.{Pivoted}
 use Rattle.facts.proofs.Placing.{placed-other, element-degree}
+use Rattle.facts.proofs.Sizes.{sized-final}
 use Rattle.facts.proofs.Start.{Neighbourly}
 use Rattle.facts.proofs.Step.{stepped, gone-after, survivorsOf, restOf, startOf, weight-t}
 use Rattle.facts.proofs.Stepped.{afterMerge, joined2}
@@ -168,50 +173,62 @@ all-blocks nd n (e ∷ es) a l = (omega (arith, a .0), all-blocks nd n es (a .1)
 
 -- ---- Q at the end
 
-abbrev pub sixAtEnd : (ℕ → ℕ) → Bool → ℕ → List (List ℕ) → Six
-sixAtEnd keyOf aggressive limit nbrs = sixOf (length (denseRows (finalState keyOf aggressive limit nbrs .graph))) (finalState keyOf aggressive limit nbrs .fronts)
+-- what the six are at most, of n columns
+pub record Bounded (n : ℕ) (x : Six) : Type 0 where
+  pub lnz : x .lnz ≤ (n - 1) * n / 2
+  pub div : x .nDiv ≤ (n - 1) * n / 2
+  pub lu : x .nMultSubsLu ≤ total square (upTo n)
+  -- half of the sum of the two
+  pub ldl : 2 * x .nMultSubsLdl ≤ total square (upTo n) + total itself (upTo n)
+  pub dense : x .nDense ≤ n
+  pub widest : x .dMax ≤ max 1 n
+
+-- a state in which all are gone
+module _ (nd n : ℕ) (s : State) (q : Tallied nd n s) (gone : s .gone ≡ n) where
+  gains-end : (h : ℕ → ℕ) (gain : ℕ → ℕ → ℕ) → ((x y : ℕ) → x ≤ y → h x ≤ h y) → ((r m : ℕ) → total h (fallTo r m) ≡ gain m r) → sumOf gain (blocksOf nd (s .fronts)) ≤ total h (upTo n)
+  gains-end h gain mono same =
+      let e : n - s .gone + nd ≡ nd = omega arith in
+      omega (arith, gains-blocks h gain same nd (s .fronts), q .sums h mono, ap (λ (x : ℕ). total h (upTo x)) e)
+
+  pub six-bounded : Bounded n (sixOf nd (s .fronts))
+  unfolding sixOf largest
+  six-bounded =
+      let few : nd ≤ n = omega (arith, q .dense) in
+      record {
+        lnz = omega (arith, gains-end itself gainQ (λ x y l. l) fall-Q, sum-below n);
+        div = omega (arith, gains-end itself gainQ (λ x y l. l) fall-Q, sum-below n);
+        lu = gains-end square gainS square-mono fall-S;
+        ldl = omega (arith, gains-end triangle gainLdl triangle-mono fall-Ldl, triangles-below n);
+        dense = few;
+        widest = largest-below (max 1 n) 1 (blocksOf nd (s .fronts)) (omega arith)
+            (all-imply _ _ (blocksOf nd (s .fronts)) (λ b h. omega arith) (all-blocks nd n (s .fronts) (q .fits) few));
+      }
 
 module _ (nbrs : List (List ℕ)) (nb : Neighbourly nbrs) (limit : ℕ) (keyOf : ℕ → ℕ) (aggressive : Bool) where
-  abbrev n : ℕ
-  n = length nbrs
-
   abbrev s : State
   s = finalState keyOf aggressive limit nbrs
 
-  tallied-end : Tallied (length (denseRows (s .graph))) n s
+  -- each front, with the dense rows, is at most n wide; and the sums
+  pub tallied-end : Tallied (length (denseRows (s .graph))) (length nbrs) s
   unfolding finalState
-  tallied-end = rw (dense-run nbrs nb keyOf aggressive limit n) (tallied-run nbrs nb limit keyOf aggressive n)
+  tallied-end = rw (dense-run nbrs nb keyOf aggressive limit (length nbrs)) (tallied-run nbrs nb limit keyOf aggressive (length nbrs))
 
-  gains-end : (h : ℕ → ℕ) (gain : ℕ → ℕ → ℕ) → ((x y : ℕ) → x ≤ y → h x ≤ h y) → ((r m : ℕ) → total h (fallTo r m) ≡ gain m r)
-      → sumOf gain (blocksOf (length (denseRows (s .graph))) (s .fronts)) ≤ total h (upTo n)
-  gains-end h gain mono same =
-      let e : n - s .gone + length (denseRows (s .graph)) ≡ length (denseRows (s .graph)) = omega (arith, final-gone limit nbrs nb keyOf aggressive) in
-      omega (arith, gains-blocks h gain same (length (denseRows (s .graph))) (s .fronts), tallied-end .sums h mono, ap (λ (x : ℕ). total h (upTo x)) e)
+  pub six-most : Bounded (length nbrs) (sixOf (length (denseRows (s .graph))) (s .fronts))
+  six-most = six-bounded (length (denseRows (s .graph))) (length nbrs) s tallied-end (final-gone limit nbrs nb keyOf aggressive)
 
-  pub dense-most : sixAtEnd keyOf aggressive limit nbrs .nDense ≤ n
-  unfolding sixOf
-  dense-most = omega (arith, tallied-end .dense, final-gone limit nbrs nb keyOf aggressive)
+  -- and so of what is told of the final state; no block is wider than n, where there is a column at all
+  pub told-most : Bounded (length nbrs) (plainFrom s .six)
+  unfolding plainFrom
+  told-most = cond-has (Bounded (length nbrs)) (eqb (rowCount (s .graph)) 0) (λ e. none) (λ e. six-most)
+    where
+      none : Bounded (length nbrs) noSix
+      none = record { lnz = omega arith; div = omega arith; lu = omega arith; ldl = omega arith; dense = omega arith; widest = omega arith }
 
-  pub lnz-most : sixAtEnd keyOf aggressive limit nbrs .lnz ≤ (n - 1) * n / 2
-  unfolding sixOf
-  lnz-most = omega (arith, gains-end itself gainQ (λ x y l. l) fall-Q, sum-below n)
-
-  pub div-most : sixAtEnd keyOf aggressive limit nbrs .nDiv ≤ (n - 1) * n / 2
-  unfolding sixOf
-  div-most = omega (arith, gains-end itself gainQ (λ x y l. l) fall-Q, sum-below n)
-
-  pub lu-most : sixAtEnd keyOf aggressive limit nbrs .nMultSubsLu ≤ total square (upTo n)
-  unfolding sixOf
-  lu-most = gains-end square gainS square-mono fall-S
-
-  -- half of the sum of the two
-  pub ldl-most : 2 * sixAtEnd keyOf aggressive limit nbrs .nMultSubsLdl ≤ total square (upTo n) + total itself (upTo n)
-  unfolding sixOf
-  ldl-most = omega (arith, gains-end triangle gainLdl triangle-mono fall-Ldl, triangles-below n)
-
-  pub d-max-most : sixAtEnd keyOf aggressive limit nbrs .dMax ≤ max 1 n
-  unfolding sixOf largest
-  d-max-most =
-      largest-below (max 1 n) 1 (blocksOf (length (denseRows (s .graph))) (s .fronts)) (omega arith)
-      (all-imply _ _ (blocksOf (length (denseRows (s .graph))) (s .fronts)) (λ b h. omega arith)
-      (all-blocks (length (denseRows (s .graph))) n (s .fronts) (tallied-end .fits) dense-most))
+  pub told-widest : plainFrom s .six .dMax ≤ length nbrs
+  unfolding plainFrom
+  told-widest =
+      cond-has (λ (x : Six). x .dMax ≤ length nbrs) (eqb (rowCount (s .graph)) 0) (λ e. omega arith)
+      (λ e. one (length nbrs) (λ z. eqb-false (rowCount (s .graph)) 0 e (sized-final keyOf aggressive limit nbrs .graph .weights ∙ z)) (six-most .widest))
+    where
+      one : (n : ℕ) {x : ℕ} → (n ≡ 0 → ⊥) → x ≤ max 1 n → x ≤ n
+      one n k l = omega arith

@@ -18,11 +18,12 @@ use Rattle.definition.specs.Pivot.{Found, nobody, found, pivot, collected}
 use Rattle.definition.specs.Elimination.{eliminate, finish, step, run, beside}
 use Rattle.facts.proofs.Beside.{beside-keeps}
 use Rattle.facts.proofs.Cases.{var-cases, collected-no-element}
+use Rattle.facts.proofs.Enlisted.{inv-start}
 use Rattle.facts.proofs.Invariant.{var-inside, var-weighs, element-not-merged}
 use Rattle.facts.proofs.Placing.{placed-same, element-elements}
 use Rattle.facts.proofs.Pivots.{Pivoted, pivoted, some-pivot}
 use Rattle.facts.proofs.Progress.{progress}
-use Rattle.facts.proofs.Start.{kind-in, kind-inside, weight-is, elements-is}
+use Rattle.facts.proofs.Start.{Neighbourly, kind-in, kind-inside, weight-is, elements-is}
 use Rattle.facts.proofs.Step.{stepped, gone-after}
 use Rattle.facts.proofs.Stepped.{Stepped, afterMerge, joined2}
 use Rattle.facts.proofs.Theorem.{inv-eliminate}
@@ -144,3 +145,10 @@ module _ {n : ℕ} (keyOf : ℕ → ℕ) (aggressive : Bool) where
       → ((s : State) → Inv n s → Weighed s → s .gone < n → (p d : ℕ) → Pivoted s p d → P s → P (eliminate keyOf n aggressive s p d))
       → (k : ℕ) (s : State) → Inv n s → Weighed s → P s → Inv n (run keyOf k n aggressive s) × Weighed (run keyOf k n aggressive s) × P (run keyOf k n aggressive s)
   run-keeps P keeps k s v w p = told-keeps (λ (t : State) (y : Unit {0}). P t) (λ s f t y. y) (λ s y. keeps s) k s tt v w p
+
+-- every state of a run has both
+pub reached : (nbrs : List (List ℕ)) → Neighbourly nbrs → (keyOf : ℕ → ℕ) (aggressive : Bool) (limit k : ℕ)
+    → Inv (length nbrs) (run keyOf k (length nbrs) aggressive (started limit nbrs)) × Weighed (run keyOf k (length nbrs) aggressive (started limit nbrs))
+reached nbrs nb keyOf aggressive limit k =
+    let h = run-keeps {n = length nbrs} keyOf aggressive (λ s. Unit {0}) (λ s v w l p d pd u. u) k (started limit nbrs) (inv-start limit nbrs nb) (weighed-start limit nbrs) tt in
+    (h .0, h .1)

@@ -3,17 +3,13 @@
 use Prim.Native.Nat.{ℕ, _+_, _-_, _*_, _/_, _^_, _≤_, _<_}
 use native.Mathlib.Nat.{mul-le-mul}
 use native.Mathlib.Omega.{arith}
-use mathlib.Core.Bool.{Bool}
-use mathlib.Core.List.{List}
-use lib.ListN.{length}
 use Rattle.plain.proofs.Falling.{square, triangle, square-mono, triangle-mono, sum-below, triangles-below}
 use Rattle.plain.proofs.Products.{pairs-most, rests-most, crossed-most, cubes-most, halved-most, whole-most, squares-most, falls-most, sums-small, squares-small}
 use Rattle.plain.specs.Lists.{total, itself}
 use Rattle.definition.specs.State.{State}
-use Rattle.definition.specs.Statistics.{gainQ, gainS, gainLdl}
+use Rattle.definition.specs.Statistics.{gainQ, gainS, gainLdl, Six}
 use Rattle.facts.proofs.Gains.{fall-Q, fall-S, fall-Ldl}
-use Rattle.facts.proofs.Start.{Neighbourly}
-use Rattle.facts.proofs.Totals.{Tallied, gains-so-far, sixAtEnd, lnz-most, lu-most, ldl-most}
+use Rattle.facts.proofs.Totals.{Tallied, gains-so-far, Bounded}
 
 -- ---- one element, with f pivots and the remaining weight r
 
@@ -75,13 +71,25 @@ totals-so-far nd n s l q =
       ldl = omega (arith, gains-so-far triangle gainLdl triangle-mono fall-Ldl nd n s q, triangles-below n);
     }
 
--- at the end, with the dense block
-module _ (nbrs : List (List ℕ)) (nb : Neighbourly nbrs) (limit : ℕ) (keyOf : ℕ → ℕ) (aggressive : Bool) (l : length nbrs ≤ 2000000) where
-  pub lnz-small : sixAtEnd keyOf aggressive limit nbrs .lnz < 2 ^ 41
-  lnz-small = omega (arith, lnz-most nbrs nb limit keyOf aggressive, sum-below (length nbrs), sums-small (length nbrs) 2000000 l)
+-- of all, with the dense block
+pub record SmallSix (x : Six) : Type 0 where
+  pub lnz : x .lnz < 2 ^ 41
+  pub div : x .nDiv < 2 ^ 41
+  pub lu : x .nMultSubsLu < 2 ^ 62
+  pub ldl : x .nMultSubsLdl < 2 ^ 62
+  pub dense : x .nDense < 2 ^ 31
+  pub widest : x .dMax < 2 ^ 31
 
-  pub lu-small : sixAtEnd keyOf aggressive limit nbrs .nMultSubsLu < 2 ^ 62
-  lu-small = omega (arith, lu-most nbrs nb limit keyOf aggressive, squares-small (length nbrs) 2000000 l)
-
-  pub ldl-small : sixAtEnd keyOf aggressive limit nbrs .nMultSubsLdl < 2 ^ 62
-  ldl-small = omega (arith, ldl-most nbrs nb limit keyOf aggressive, squares-small (length nbrs) 2000000 l, sums-small (length nbrs) 2000000 l)
+pub six-small : (n : ℕ) (x : Six) → n ≤ 2000000 → Bounded n x → SmallSix x
+six-small n x l b =
+    let a = sums-small n 2000000 l in
+    let c = squares-small n 2000000 l in
+    let e = sum-below n in
+    record {
+      lnz = omega (arith, b .lnz);
+      div = omega (arith, b .div);
+      lu = omega (arith, b .lu);
+      ldl = omega (arith, b .ldl);
+      dense = omega (arith, b .dense);
+      widest = omega (arith, b .widest);
+    }
