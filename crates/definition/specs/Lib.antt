@@ -1,5 +1,6 @@
--- The definition of the ordering, on plain lists: a file for each topic of document 01, which the comments quote. No workspace, no pointers, no
--- collections, except in `Room`, which counts the collections that a room of a given size has, and in `Outcome`, which adds that count.
+-- The definition of the ordering, on plain lists: a file for each topic of document 01, which the comments quote. The ordering itself, down to `Ordering`, knows
+-- no workspace, no place in one and no collection; of `Answers` only case 7 asks for two lengths. `Room` alone counts collections, for a room of a given size;
+-- `Outcome` puts that count beside the ordering, and `Promise` says what a call leaves in each lent slice.
 -- The order of the lines is the order of reading: each file uses those above it.
 pub mod Limits
 pub mod Threshold

@@ -3,19 +3,20 @@
 use Prim.Native.Nat.{ℕ, _+_, _-_, _*_, _/_, _≤_, max}
 use native.Mathlib.Omega.{arith}
 use mathlib.Core.Path.{_≡_, refl, sym, ap, _∙_}
-use mathlib.Core.Bool.{Bool, true}
+use mathlib.Core.Bool.{Bool, true, _||_}
 use mathlib.Core.List.{List, [], _∷_, _++_, map, foldl}
 use lib.Dec.{eqb}
 use lib.ListN.{length}
 use borrow.Author.Tests.{eqb-false}
 use Rattle.plain.proofs.Falling.{square, triangle, square-mono, triangle-mono, fall-all, fall-under, upTo-mono, sum-below, triangles-below}
 use Rattle.plain.proofs.Folds.{all-append, all-of, all-imply}
-use Rattle.plain.proofs.Logic.{cond-has}
-use Rattle.plain.proofs.Members.{not-kept}
+use Rattle.plain.proofs.Logic.{cond-has, or-right}
+use Rattle.plain.proofs.Members.{not-kept, member-kept, kept-passes, kept-was}
+use Rattle.plain.proofs.Repeats.{distinct-keep, distinct-countUp, length-within}
 use Rattle.plain.proofs.Sums.{total-append, total-one, total-map, total-same}
-use Rattle.plain.specs.Lists.{total, itself, upTo, fallTo}
+use Rattle.plain.specs.Lists.{keep, total, itself, upTo, fallTo}
 use Rattle.plain.specs.Members.{All}
-use Rattle.definition.specs.State.{State, Front, weight, degree, hasWeight, rowCount, started, denseRows}
+use Rattle.definition.specs.State.{State, Front, weight, degree, hasWeight, rowCount, isElement, isDense, startKind, atOnce, started, denseRows}
 use Rattle.definition.specs.Pivot.{collected, delisted}
 use Rattle.definition.specs.Elimination.{eliminate, finish, run, finalState}
 use Rattle.definition.specs.Ordering.{plainFrom}
@@ -23,7 +24,7 @@ use Rattle.definition.specs.Statistics.{noSix, gainQ, gainS, gainLdl, Block, Si
 use Rattle.facts.proofs.Bounds.{element-left}
 use Rattle.facts.proofs.Cases.{pivot-live}
 use Rattle.facts.proofs.Collected.{pivot-outside}
-use Rattle.facts.proofs.Dense.{dense-start, dense-run}
+use Rattle.facts.proofs.KindsKept.{dense-start, dense-final}
 use Rattle.facts.proofs.Enlisted.{inv-start, final-gone}
 use Rattle.facts.proofs.Gains.{fall-Q, fall-S, fall-Ldl}
 use Rattle.facts.proofs.Invariant.{var-inside}
@@ -111,6 +112,21 @@ tallied-eliminate {n} keyOf aggressive nd s v p d pd q = record {
           q .sums h mono,
         )
 
+-- the dense rows are gone at once
+gone-is : (limit : ℕ) (nbrs : List (List ℕ)) → started limit nbrs .gone ≡ length (atOnce limit nbrs)
+unfolding started
+gone-is limit nbrs = refl
+
+pub dense-gone : (limit : ℕ) (nbrs : List (List ℕ)) → length (denseRows (started limit nbrs .graph)) ≤ started limit nbrs .gone
+unfolding atOnce
+dense-gone limit nbrs =
+    rw (dense-start limit nbrs, gone-is limit nbrs)
+    (length-within (keep (λ v. isDense (startKind limit nbrs v)) (upTo (length nbrs))) (atOnce limit nbrs)
+    (distinct-keep (λ v. isDense (startKind limit nbrs v)) (upTo (length nbrs)) (distinct-countUp 0 (length nbrs)))
+    (λ x m. member-kept x (λ v. isElement (startKind limit nbrs v) || isDense (startKind limit nbrs v)) (upTo (length nbrs))
+    (or-right (isElement (startKind limit nbrs x)) (isDense (startKind limit nbrs x)) (kept-passes x (λ v. isDense (startKind limit nbrs v)) (upTo (length nbrs)) m))
+    (kept-was x (λ v. isDense (startKind limit nbrs v)) (upTo (length nbrs)) m)))
+
 -- the dense count, from the start on
 abbrev pub denseCount : ℕ → List (List ℕ) → ℕ
 denseCount limit nbrs = length (denseRows (started limit nbrs .graph))
@@ -123,13 +139,13 @@ module _ (nbrs : List (List ℕ)) (nb : Neighbourly nbrs) (limit : ℕ) where
   tallied-start : Tallied (denseCount limit nbrs) (length nbrs) (started limit nbrs)
   unfolding total
   tallied-start = record {
-    dense = dense-start limit nbrs;
+    dense = dense-gone limit nbrs;
     fits = rw no-fronts tt;
     sums = λ h mono. rw no-fronts
         (omega (
           arith,
           upTo-mono h mono (length nbrs - started limit nbrs .gone + denseCount limit nbrs) (length nbrs)
-              (omega (arith, dense-start limit nbrs, gone-most {n = length nbrs} (λ x. x) true (started limit nbrs) (inv-start limit nbrs nb))),
+              (omega (arith, dense-gone limit nbrs, gone-most {n = length nbrs} (λ x. x) true (started limit nbrs) (inv-start limit nbrs nb))),
         ));
   }
 
@@ -211,7 +227,7 @@ module _ (nbrs : List (List ℕ)) (nb : Neighbourly nbrs) (limit : ℕ) (keyOf :
   -- each front, with the dense rows, is at most n wide; and the sums
   pub tallied-end : Tallied (length (denseRows (s .graph))) (length nbrs) s
   unfolding finalState
-  tallied-end = rw (dense-run nbrs nb keyOf aggressive limit (length nbrs)) (tallied-run nbrs nb limit keyOf aggressive (length nbrs))
+  tallied-end = rw (dense-final limit nbrs nb keyOf aggressive) (tallied-run nbrs nb limit keyOf aggressive (length nbrs))
 
   pub six-most : Bounded (length nbrs) (sixOf (length (denseRows (s .graph))) (s .fronts))
   six-most = six-bounded (length (denseRows (s .graph))) (length nbrs) s tallied-end (final-gone limit nbrs nb keyOf aggressive)

@@ -2,5 +2,7 @@
 pub mod Invariant
 pub mod History
 pub mod Past
+pub mod Accepted
+pub mod Classes
 pub mod Reading
 pub mod Opened

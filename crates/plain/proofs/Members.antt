@@ -131,6 +131,17 @@ not-kept x p xs h = rw (member-keep x p xs, h) (at-false (p x))
 pub not-kept-at : (x : ℕ) (p : ℕ → Bool) (xs : List ℕ) → p x ≡ false → member x (keep p xs) ≡ false
 not-kept-at x p xs h = rw (member-keep x p xs, h)
 
+-- tests that agree on the list
+pub keep-same : (p q : ℕ → Bool) (xs : List ℕ) → ((x : ℕ) → In x xs → p x ≡ q x) → keep p xs ≡ keep q xs
+unfolding keep
+keep-same p q [] h = refl
+keep-same p q (x ∷ xs) h = rw (h x (member-here x xs), keep-same p q xs (λ y m. h y (member-there y x xs m)))
+
+pub keep-every : (p : ℕ → Bool) (xs : List ℕ) → ((x : ℕ) → In x xs → p x ≡ true) → keep p xs ≡ xs
+unfolding keep
+keep-every p [] h = refl
+keep-every p (x ∷ xs) h = rw (h x (member-here x xs), keep-every p xs (λ y m. h y (member-there y x xs m)))
+
 pub member-delete : (x y : ℕ) (ys : List ℕ) → x ≢ y → member y ys ≡ true → member y (delete x ys) ≡ true
 unfolding delete
 member-delete x y ys n h = member-kept y (λ z. not (eqb x z)) ys (rw (ne-eqb x y n)) h
@@ -142,12 +153,6 @@ delete-was x y ys h = kept-was y (λ z. not (eqb x z)) ys h
 pub delete-apart : (x y : ℕ) (ys : List ℕ) → member y (delete x ys) ≡ true → x ≢ y
 unfolding delete
 delete-apart x y ys h = eqb-false x y (not-back (eqb x y) (kept-passes y (λ z. not (eqb x z)) ys h))
-
--- tests that agree on the list keep the same
-pub keep-same : (a b : ℕ → Bool) (xs : List ℕ) → ((x : ℕ) → member x xs ≡ true → a x ≡ b x) → keep a xs ≡ keep b xs
-unfolding keep
-keep-same a b [] h = refl
-keep-same a b (x ∷ xs) h = rw (h x (member-here x xs), keep-same a b xs (λ y m. h y (member-there y x xs m)))
 
 -- ---- in another order
 
