@@ -53,3 +53,4 @@ pub mod Collections
 pub mod Totals
 pub mod Words
 pub mod Flags
+pub mod Measured
