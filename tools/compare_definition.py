@@ -3,8 +3,8 @@
 
     python3 tools/compare_definition.py SRC [--work DIR]
 
-From the repository's root. SRC is the folder of the Rust's sources. In DIR (a temporary folder where none is named) the oracle is
-built, and a repository of the crates plain, definition and comparison is written, which `rt check comparison` proves.
+From the repository's root. SRC is the folder of the Rust's sources. In DIR, outside the repository (a temporary folder where none is
+named), the oracle is built and a repository of the crates plain, definition and comparison is written; `rt check comparison` proves it.
 Outcomes: answer, permutation, inverse and the seven statistics, the Rust run in the same room.
 Lists: the neighbours of each row in order, against preprocess.rs and the first half of amd_1.rs, here line by line in Python.
 The cases are the same at every run.
