@@ -1,0 +1,5 @@
+-- The laws of `chain` that belong to no one function.
+pub mod Steps
+pub mod Turn
+pub mod Frame
+pub mod Push

@@ -1,0 +1,33 @@
+-- The code's steps are the model's: one law for each way out of a function, its premises in the words of what was called.
+-- Assumes nothing.
+use Prim.Native.Nat.{ℕ, _<_, _≤_}
+use mathlib.Core.Path.{_≡_, sym, _∙_}
+use mathlib.Core.List.{List}
+use borrow.Author.Tests.{lt-ltb, le-ltb}
+use lib.IntN.{ℤ}
+use Rattle.cells.specs.Layout.{DEGREE, NEXT, LAST, HEAD}
+use Rattle.cells.specs.View.{rd, up}
+use Rattle.chain.specs.Model.{relinked, removed, linkedBefore, pushed}
+
+module _ (n : ℕ) (s : List ℤ) (i b a : ℕ) where
+  pub relink-mid : (r : List ℤ) → r ≡ up n NEXT s b a → b < n → r ≡ relinked n s i b a
+  unfolding relinked
+  relink-mid r e h = rw (lt-ltb b n h) e
+
+  pub relink-front : (r : List ℤ) (d : ℕ) → d ≡ rd n DEGREE s i → r ≡ up n HEAD s d a → n ≤ b → r ≡ relinked n s i b a
+  unfolding relinked
+  relink-front r d hd e h = rw (le-ltb b n h, ← hd) e
+
+pub remove-step : (n : ℕ) (s : List ℤ) (i b a : ℕ) (t r : List ℤ) → b ≡ rd n LAST s i → a ≡ rd n NEXT s i → t ≡ up n LAST s a b
+    → r ≡ relinked n t i b a → r ≡ removed n s i
+unfolding removed
+remove-step n s i b a t r hb ha ht hr = rw (← hb, ← ha, ← ht) hr
+
+pub link-step : (n : ℕ) (s : List ℤ) (h i : ℕ) (t u r : List ℤ) → t ≡ up n LAST s h i → u ≡ up n NEXT t i h → r ≡ up n LAST u i n → r ≡ linkedBefore n s h i
+unfolding linkedBefore
+link-step n s h i t u r ht hu hr = rw (← ht, ← hu) hr
+
+pub push-step : (n : ℕ) (s : List ℤ) (d i h : ℕ) (t u r : List ℤ) → h ≡ rd n HEAD s d → t ≡ linkedBefore n s h i → u ≡ up n DEGREE t i d
+    → r ≡ up n HEAD u d i → r ≡ pushed n s d i
+unfolding pushed
+push-step n s d i h t u r hh ht hu hr = rw (← hh, ← ht, ← hu) hr

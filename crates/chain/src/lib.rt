@@ -1,0 +1,79 @@
+// The degree lists of the elimination: doubly linked, one for each degree, in the fields HEAD, NEXT, LAST and DEGREE of the scratch. The null link is n, where a
+// store does nothing. Nothing here asks for lists that make sense: a contract is the function's own model, and the laws of `proofs/` say what it does to the lists.
+ghost use mathlib.Core.Path.{_≡_};
+ghost use Prim.Native.Nat.{_+_, _<_, _≤_, _^_};
+ghost use Rattle.cells.specs.View.{Room};
+ghost use Rattle.chain.specs.Model.{relinked, removed, linkedBefore, pushed, removedAll, emptied, enlistedOne, enlistedAll};
+ghost use Rattle.chain.specs.First.{First};
+
+// A row and the degree of the list that it is the front of; the row is n where there is none.
+pub struct Pivot {
+    pub me: usize,
+    pub degree: usize,
+}
+
+// What stood before row `i`, or the head of its list where nothing did, goes on at `after`.
+fn relink(s: &mut [i64], n: usize, i: usize, before: usize, after: usize)
+    requires { ⌜ Room n (now s) × (after < 2 ^ 63) ⌝ }
+    ensures { λ _. ⌜ (now (s .exit) ≡ relinked n (now (s .entry)) i before after) × Room n (now (s .exit)) ⌝ }
+{
+    if before < n {
+        cells::up(s, n, cells::NEXT, before, after);
+    } else {
+        let d = cells::rd(s, n, cells::DEGREE, i);
+        cells::put(s, n, cells::HEAD, d, after);
+    }
+}
+
+// Takes row `i` out of the list that it stands in, wherever it stands there.
+pub fn take_out(s: &mut [i64], n: usize, i: usize)
+    requires { ⌜ Room n (now s) ⌝ }
+    ensures { λ _. ⌜ (now (s .exit) ≡ removed n (now (s .entry)) i) × Room n (now (s .exit)) ⌝ }
+{
+    let before = cells::rd(s, n, cells::LAST, i);
+    let after = cells::rd(s, n, cells::NEXT, i);
+    cells::up(s, n, cells::LAST, after, before);
+    relink(s, n, i, before, after);
+}
+
+// Row `i` stands before row `front`, and nothing before it.
+fn link_before(s: &mut [i64], n: usize, front: usize, i: usize)
+    requires { ⌜ Room n (now s) × (front < 2 ^ 63) × (i < 2 ^ 63) ⌝ }
+    ensures { λ _. ⌜ (now (s .exit) ≡ linkedBefore n (now (s .entry)) front i) × Room n (now (s .exit)) ⌝ }
+{
+    cells::up(s, n, cells::LAST, front, i);
+    cells::up(s, n, cells::NEXT, i, front);
+    cells::up(s, n, cells::LAST, i, n);
+}
+
+// Puts row `i` to the front of the list of degree `d`, which becomes its degree.
+pub fn put_front(s: &mut [i64], n: usize, d: usize, i: usize)
+    requires { ⌜ Room n (now s) × (d < 2 ^ 63) × (i < 2 ^ 63) ⌝ }
+    ensures { λ _. ⌜ (now (s .exit) ≡ pushed n (now (s .entry)) d i) × Room n (now (s .exit)) ⌝ }
+{
+    let front = cells::tab(s, n, cells::HEAD, d);
+    link_before(s, n, front, i);
+    cells::up(s, n, cells::DEGREE, i, d);
+    cells::put(s, n, cells::HEAD, d, i);
+}
+
+// The front of the first list at or after the degree `least` that has one, and its degree.
+pub fn find_pivot(s: &[i64], n: usize, least: usize) -> Pivot
+    requires { ⌜ Room n (now s) ⌝ }
+    ensures { λ r. ⌜ First n (now (s .entry)) least (r .me) (r .degree) ⌝ }
+{
+    let mut d = least;
+    loop {
+        if n <= d {
+            break Pivot { me: n, degree: d };
+        }
+        let front = cells::tab(s, n, cells::HEAD, d);
+        if front < n {
+            break Pivot {
+                me: front,
+                degree: d,
+            };
+        }
+        d += 1;
+    }
+}
