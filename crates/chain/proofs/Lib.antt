@@ -3,3 +3,4 @@ pub mod Steps
 pub mod Turn
 pub mod Frame
 pub mod Push
+pub mod Unlink

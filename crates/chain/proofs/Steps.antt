@@ -10,13 +10,19 @@ use Rattle.cells.specs.View.{rd, up}
 use Rattle.chain.specs.Model.{relinked, removed, linkedBefore, pushed}
 
 module _ (n : ℕ) (s : List ℤ) (i b a : ℕ) where
-  pub relink-mid : (r : List ℤ) → r ≡ up n NEXT s b a → b < n → r ≡ relinked n s i b a
+  pub relinked-mid : b < n → relinked n s i b a ≡ up n NEXT s b a
   unfolding relinked
-  relink-mid r e h = rw (lt-ltb b n h) e
+  relinked-mid h = rw (lt-ltb b n h)
+
+  pub relinked-front : n ≤ b → relinked n s i b a ≡ up n HEAD s (rd n DEGREE s i) a
+  unfolding relinked
+  relinked-front h = rw (le-ltb b n h)
+
+  pub relink-mid : (r : List ℤ) → r ≡ up n NEXT s b a → b < n → r ≡ relinked n s i b a
+  relink-mid r e h = e ∙ sym (relinked-mid h)
 
   pub relink-front : (r : List ℤ) (d : ℕ) → d ≡ rd n DEGREE s i → r ≡ up n HEAD s d a → n ≤ b → r ≡ relinked n s i b a
-  unfolding relinked
-  relink-front r d hd e h = rw (le-ltb b n h, ← hd) e
+  relink-front r d hd e h = rw (relinked-front h, ← hd) e
 
 pub remove-step : (n : ℕ) (s : List ℤ) (i b a : ℕ) (t r : List ℤ) → b ≡ rd n LAST s i → a ≡ rd n NEXT s i → t ≡ up n LAST s a b
     → r ≡ relinked n t i b a → r ≡ removed n s i
