@@ -4,3 +4,5 @@ pub mod Turn
 pub mod Frame
 pub mod Push
 pub mod Unlink
+pub mod Search
+pub mod Leave

@@ -2,7 +2,7 @@
 // store does nothing. Nothing here asks for lists that make sense: a contract is the function's own model, and the laws of `proofs/` say what it does to the lists.
 ghost use mathlib.Core.Path.{_≡_};
 ghost use Prim.Native.Nat.{_+_, _<_, _≤_, _^_};
-ghost use Rattle.cells.specs.View.{Room};
+ghost use Rattle.cells.specs.View.{Room, at};
 ghost use Rattle.chain.specs.Model.{relinked, removed, linkedBefore, pushed, removedAll, emptied, enlistedOne, enlistedAll};
 ghost use Rattle.chain.specs.First.{First};
 
@@ -75,5 +75,58 @@ pub fn find_pivot(s: &[i64], n: usize, least: usize) -> Pivot
             };
         }
         d += 1;
+    }
+}
+
+// Takes the row in cell `q` of the list space out of its list.
+fn take_at(lists: &[i64], s: &mut [i64], n: usize, q: usize)
+    requires { ⌜ Room n (now s) ⌝ }
+    ensures { λ _. ⌜ (now (s .exit) ≡ removed n (now (s .entry)) (at (now (lists .entry)) q)) × Room n (now (s .exit)) ⌝ }
+{
+    let i = cells::peek(lists, q);
+    take_out(s, n, i);
+}
+
+// Takes the rows in the `k` cells of the list space from `from` on out of their lists, one after the other.
+pub fn take_all(lists: &[i64], s: &mut [i64], n: usize, from: usize, k: usize)
+    requires { ⌜ Room n (now s) × (from < 2 ^ 63) × (k < 2 ^ 63) ⌝ }
+    ensures { λ _. ⌜ (now (s .exit) ≡ removedAll (now (lists .entry)) n from k (now (s .entry))) × Room n (now (s .exit)) ⌝ }
+{
+    for t in 0..k {
+        take_at(lists, s, n, from + t);
+    }
+}
+
+// No list has a front.
+fn empty_lists(s: &mut [i64], n: usize)
+    requires { ⌜ Room n (now s) ⌝ }
+    ensures { λ _. ⌜ (now (s .exit) ≡ emptied n (now (s .entry))) × Room n (now (s .exit)) ⌝ }
+{
+    for d in 0..n {
+        cells::put(s, n, cells::HEAD, d, n);
+    }
+}
+
+// Puts row `i` to the front of the list of its length: a row of length 0 and a row longer than the limit go into no list.
+fn enlist(s: &mut [i64], n: usize, limit: usize, i: usize)
+    requires { ⌜ Room n (now s) × (i < 2 ^ 63) ⌝ }
+    ensures { λ _. ⌜ (now (s .exit) ≡ enlistedOne n limit i (now (s .entry))) × Room n (now (s .exit)) ⌝ }
+{
+    let d = cells::rd(s, n, cells::LEN, i);
+    if 0 < d {
+        if d <= limit {
+            put_front(s, n, d, i);
+        }
+    }
+}
+
+// The lists at the start: each row of a length from 1 to `limit`, in ascending order.
+pub fn enlist_all(s: &mut [i64], n: usize, limit: usize)
+    requires { ⌜ Room n (now s) ⌝ }
+    ensures { λ _. ⌜ (now (s .exit) ≡ enlistedAll n limit (now (s .entry))) × Room n (now (s .exit)) ⌝ }
+{
+    empty_lists(s, n);
+    for i in 0..n {
+        enlist(s, n, limit, i);
     }
 }
