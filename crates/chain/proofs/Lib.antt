@@ -6,3 +6,4 @@ pub mod Push
 pub mod Unlink
 pub mod Search
 pub mod Leave
+pub mod Opening
