@@ -6,13 +6,17 @@ use mathlib.Core.Path.{_≡_, refl, sym, ap, _∙_, subst}
 use mathlib.Core.Logic.{_≢_, _⊎_, inl, inr}
 use mathlib.Core.Bool.{true, false}
 use mathlib.Core.List.{List, [], _∷_}
+use mathlib.Core.Option.{Option}
+use lib.Dec.{eqb}
 use lib.IntN.{ℤ}
 use Rattle.plain.specs.Lists.{member}
 use Rattle.plain.specs.Members.{In, Distinct, All}
-use Rattle.plain.proofs.Members.{member-nil, member-here, member-there, not-here, not-there, not-cons}
+use Rattle.plain.proofs.Members.{member-nil, member-here, member-there, not-here, not-there, not-cons, apart}
 use Rattle.plain.proofs.Folds.{all-in}
 use Rattle.cells.specs.Layout.{DEGREE, NEXT, LAST, HEAD}
-use Rattle.cells.specs.View.{rd}
+use Rattle.cells.specs.View.{rd, up}
+use Rattle.cells.specs.Links.{hang}
+use Rattle.cells.proofs.Laws.{mem}
 use Rattle.chain.specs.Chained.{Links, links, Node, Seg, Chained}
 
 -- two memories agree on row j
@@ -72,3 +76,19 @@ module _ {n : ℕ} {s : List ℤ} {L : ℕ → List ℕ} (h : Chained n s L) whe
   -- a row stands in no list but that of its degree
   pub only-degree : (d i : ℕ) → d < n → rd n DEGREE s i ≢ d → member i (L d) ≡ false
   only-degree d i hd w = fresh-degree n (links n s) d n (rd n HEAD s d) (L d) i (h .chain d hd) (inr w)
+
+-- ---- one store
+
+module _ (n : ℕ) (s : List ℤ) (L : ℕ → List ℕ) (h : Chained n s L) where
+  -- in another field
+  pub chained-up : (f i v : ℕ) → eqb f HEAD ≡ false → eqb f NEXT ≡ false → eqb f LAST ≡ false → eqb f DEGREE ≡ false → Chained n (up n f s i v) L
+  chained-up f i v a b c d = chained-same h (up n f s i v) (λ j. simp (mem, a)) (λ j. simp (mem, b)) (λ j. simp (mem, c)) (λ j. simp (mem, d))
+
+  pub chained-hang : (i : ℕ) (p : Option ℕ) → Chained n (hang n s i p) L
+  chained-hang i p = chained-same h (hang n s i p) (λ j. simp mem) (λ j. simp mem) (λ j. simp mem) (λ j. simp mem)
+
+  -- the degree of a row that stands in no list
+  pub chained-degree : (i v : ℕ) → ((e : ℕ) → e < n → member i (L e) ≡ false) → Chained n (up n DEGREE s i v) L
+  chained-degree i v out =
+      chained-frame h (up n DEGREE s i v) (λ d hd. simp mem)
+      (λ d j hd m. let ne : i ≢ j = apart i j (L d) (out d hd) m in record { next = simp mem; back = simp mem; deg = simp mem })

@@ -13,11 +13,13 @@ use lib.Seq.{getD-set-same, getD-set-other}
 use Rattle.plain.specs.Lists.{member, delete}
 use Rattle.plain.specs.Members.{In, Distinct}
 use Rattle.plain.specs.Turns.{entries, times}
+use Rattle.plain.proofs.Logic.{clash}
 use Rattle.plain.proofs.Turns.{times-fold}
-use Rattle.plain.proofs.Members.{member-here, member-there, member-delete, delete-fresh, apart}
+use Rattle.plain.proofs.Members.{member-here, member-there, member-delete, delete-fresh, apart, not-in}
 use Rattle.definition.specs.State.{Graph, State, degree, queueOf}
 use Rattle.definition.specs.Pivot.{delist, delisted}
 use Rattle.facts.specs.Invariant.{Var, Queued}
+use Rattle.facts.proofs.Queues.{delisted-was, delisted-gone}
 use Rattle.cells.specs.Layout.{DEGREE, NEXT, LAST, HEAD}
 use Rattle.cells.specs.View.{at, rd, Room}
 use Rattle.cells.specs.Links.{parent}
@@ -76,6 +78,17 @@ delisted-rep n g (v ∷ vs) s qs room size h d q =
     let here = q v (member-here v vs) in
     delisted-rep n g vs (removed n s v) (delist g qs v) (removed-room n s v room) (size-delist g qs v ∙ size) (delist-rep n g s qs size h v here room) (d .1)
     (λ w m. still-stands n g s qs size h v here w (apart v w vs (d .0) m) (q w (member-there w v vs m)))
+
+-- a row that left stands in no list any more
+pub delisted-fresh : (n : ℕ) (g : Graph) (vs : List ℕ) (s : List ℤ) (qs : List (List ℕ)) → Chained n s (queueOf qs) → (v : ℕ) → In v vs → rd n DEGREE s v ≡ degree g v
+    → (e : ℕ) → e < n → member v (queueOf (delisted g qs vs) e) ≡ false
+delisted-fresh n g vs s qs h v m same e he =
+    not-in v (queueOf (delisted g qs vs) e)
+    (λ x. by (delisted-was g vs qs e v x) (λ (y : degree g v ≡ e). delisted-gone g vs qs v m (ap (λ (d : ℕ). member v (queueOf (delisted g qs vs) d)) y ∙ x)) (same? (degree g v) e))
+  where
+    by : In v (queueOf qs e) → (degree g v ≡ e → ⊥) → (degree g v ≡ e) ⊎ (degree g v ≢ e) → ⊥
+    by w k (inl y) = k y
+    by w k (inr y) = clash (member v (queueOf qs e)) w (only-degree h e v he (λ z. y (sym same ∙ z)))
 
 module _ (l : List ℤ) (n p k : ℕ) (s : List ℤ) where
   -- the loop over the cells is a fold over the rows in them

@@ -4,6 +4,7 @@ pub mod Turn
 pub mod Frame
 pub mod Push
 pub mod Unlink
+pub mod Fronts
 pub mod Search
 pub mod Leave
 pub mod Opening

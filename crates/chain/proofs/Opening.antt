@@ -9,8 +9,7 @@ use mathlib.Core.List.{List, [], _∷_, foldl}
 use borrow.Author.Tests.{lt-ltb, le-ltb, le-leb, lt-leb, eq-eqb, ne-eqb}
 use lib.Dec.{ltb, leb, eqb}
 use lib.IntN.{ℤ}
-use lib.ListN.{length, replicate, set, length-set, length-replicate}
-use lib.Seq.{getD-set-same, getD-set-other}
+use lib.ListN.{length, replicate, length-replicate}
 use Rattle.plain.specs.Lists.{member, upTo}
 use Rattle.plain.specs.Turns.{times, upd}
 use Rattle.plain.proofs.Logic.{cond-has}
@@ -19,6 +18,8 @@ use Rattle.plain.proofs.Entries.{upd-same, upd-other}
 use Rattle.plain.proofs.Positions.{getD-same}
 use Rattle.plain.proofs.Turns.{times-keeps, times-simulates, times-upTo}
 use Rattle.definition.specs.State.{queueOf, pushFront, startDegree, startKind, isVariable, element, dense, variable, enlist, started}
+use Rattle.facts.proofs.Start.{Neighbourly}
+use Rattle.facts.proofs.Enlisted.{degree-low}
 use Rattle.cells.specs.Layout.{LEN, DEGREE, NEXT, LAST, HEAD}
 use Rattle.cells.specs.View.{rd, up, Room}
 use Rattle.cells.specs.Links.{parent}
@@ -28,7 +29,8 @@ use Rattle.cells.proofs.Laws.{mem}
 use Rattle.chain.specs.Model.{pushed, emptied, enlistedOne, enlistedAll}
 use Rattle.chain.specs.Chained.{Chained}
 use Rattle.chain.proofs.Frame.{chained-lists}
-use Rattle.chain.proofs.Push.{pushed-rep, pushed-other, pushed-parent, pushed-length, pushed-room, pushed-degree, pushed-degree-other}
+use Rattle.chain.proofs.Fronts.{size-push, push-lists, front-rep}
+use Rattle.chain.proofs.Push.{pushed-other, pushed-parent, pushed-length, pushed-room, pushed-degree, pushed-degree-other}
 
 -- ---- no list has a front
 
@@ -92,6 +94,28 @@ module _ (n limit : ℕ) where
     pub enlisted-length : length (enlistedAll n limit s) ≡ length s
     enlisted-length = all-keeps (λ m. length m ≡ length s) (λ m d q. simp mem q) (λ m i l q. pushed-length n m (rd n LEN m i) i ∙ q) s refl
 
+-- rows whose degree is their length before, have it after
+record Measured (n : ℕ) (s m : List ℤ) : Type 0 where
+  room : Room n m
+  lengths : (v : ℕ) → rd n LEN m v ≡ rd n LEN s v
+  degrees : (v : ℕ) → rd n DEGREE m v ≡ rd n LEN s v
+
+module _ (n : ℕ) (s : List ℤ) where
+  degree-by : (m : List ℤ) (i : ℕ) → i < n → Measured n s m → (v : ℕ) → (v ≡ i) ⊎ (v ≢ i) → rd n DEGREE (pushed n m (rd n LEN m i) i) v ≡ rd n LEN s v
+  degree-by m i l h v (inl e) = rw e (pushed-degree n m (rd n LEN m i) i (h .room) l ∙ h .lengths i)
+  degree-by m i l h v (inr e) = pushed-degree-other n m (rd n LEN m i) i v (λ y. e (sym y)) ∙ h .degrees v
+
+  pub enlisted-degrees : (limit : ℕ) → Room n s → ((v : ℕ) → rd n DEGREE s v ≡ rd n LEN s v) → (v : ℕ) → rd n DEGREE (enlistedAll n limit s) v ≡ rd n LEN s v
+  enlisted-degrees limit room same =
+      all-keeps n limit (Measured n s)
+      (λ m d h. record { room = room-up n HEAD m d n (h .room); lengths = λ v. simp mem (h .lengths v); degrees = λ v. simp mem (h .degrees v) })
+      (λ m i l h. record {
+        room = pushed-room n m (rd n LEN m i) i (h .room);
+        lengths = λ v. pushed-other n m (rd n LEN m i) i LEN v refl refl refl refl ∙ h .lengths v;
+        degrees = λ v. degree-by m i l h v (same? v i);
+      })
+      s (record { room = room; lengths = λ v. refl; degrees = same }) .degrees
+
 -- ---- the definition's lists
 
 module _ (n limit : ℕ) (nbrs : List (List ℕ)) (low : (v : ℕ) → v < n → startDegree nbrs v < n) where
@@ -113,30 +137,19 @@ module _ (n limit : ℕ) (nbrs : List (List ℕ)) (low : (v : ℕ) → v < n →
     abbrev d : ℕ
     d = startDegree nbrs k
 
-    lists-by : (e : ℕ) → (e ≡ d) ⊎ (e ≢ d) → queueOf (pushFront d k qs) e ≡ upd (queueOf qs) d (k ∷ queueOf qs d) e
-    unfolding pushFront
-    lists-by e (inl q) = rw (q, upd-same (queueOf qs) d (k ∷ queueOf qs d)) (getD-set-same qs d (k ∷ queueOf qs d) [] (omega (arith, h .size, low k l)))
-    lists-by e (inr q) = rw (upd-other (queueOf qs) d (k ∷ queueOf qs d) e q) (getD-set-other qs d e (k ∷ queueOf qs d) [] q)
-
     later-by : (v e : ℕ) → suc k ≤ v → e < n → (e ≡ d) ⊎ (e ≢ d) → member v (upd (queueOf qs) d (k ∷ queueOf qs d) e) ≡ false
     later-by v e a b (inl q) =
         rw (q, upd-same (queueOf qs) d (k ∷ queueOf qs d)) (not-cons v k (queueOf qs d) (λ z. omega arith) (h .later v d (omega arith) (low k l)))
     later-by v e a b (inr q) = rw (upd-other (queueOf qs) d (k ∷ queueOf qs d) e q) (h .later v e (omega arith) b)
 
-    size-push : length (pushFront d k qs) ≡ length qs
-    unfolding pushFront
-    size-push = length-set qs d (k ∷ queueOf qs d)
-
     open-by : (b : Bool) → Opened (suc k) (cond b (pushed n m d k) m) (cond b (pushFront d k qs) qs)
     open-by true =
         record {
           room = pushed-room n m d k (h .room);
-          size = size-push ∙ h .size;
-          lists =
-              chained-lists (pushed-rep n m d k (h .room) (low k l) l (queueOf qs) (h .lists) (λ e he. h .later k e (omega arith) he))
-              (queueOf (pushFront d k qs)) (λ e he. lists-by e (same? e d));
+          size = size-push qs d k ∙ h .size;
+          lists = front-rep n m d k qs (h .size) (low k l) l (h .room) (h .lists) (λ e he. h .later k e (omega arith) he);
           lengths = λ v hv. pushed-other n m d k LEN v refl refl refl refl ∙ h .lengths v hv;
-          later = λ v e a b. ap (member v) (lists-by e (same? e d)) ∙ later-by v e a b (same? e d);
+          later = λ v e a b. ap (member v) (push-lists qs d k (omega (arith, h .size, low k l)) e) ∙ later-by v e a b (same? e d);
         }
     open-by false =
         record { room = h .room; size = h .size; lists = h .lists; lengths = h .lengths; later = λ v e a b. h .later v e (omega arith) b }
@@ -174,3 +187,9 @@ module _ (n limit : ℕ) (nbrs : List (List ℕ)) (low : (v : ℕ) → v < n →
     -- the lists that the elimination starts with
     pub opened-rep : length nbrs ≡ n → Chained n (enlistedAll n limit s) (queueOf (started limit nbrs .queues))
     opened-rep e = rw (started-queues e) opened-fold
+
+-- the same where every row lists others, each once: its degree is below n
+pub opened-start : (limit : ℕ) (nbrs : List (List ℕ)) → Neighbourly nbrs → (s : List ℤ) → Room (length nbrs) s
+    → ((v : ℕ) → v < length nbrs → rd (length nbrs) LEN s v ≡ startDegree nbrs v)
+    → Chained (length nbrs) (enlistedAll (length nbrs) limit s) (queueOf (started limit nbrs .queues))
+opened-start limit nbrs nb s room lengths = opened-rep (length nbrs) limit nbrs (degree-low limit nbrs nb) s room lengths refl

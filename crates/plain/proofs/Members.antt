@@ -170,6 +170,10 @@ pub delete-fresh : (x : ℕ) (ys : List ℕ) → member x ys ≡ false → delet
 unfolding delete
 delete-fresh x ys h = keep-every (λ z. not (eqb x z)) ys (λ z m. rw (ne-eqb x z (apart x z ys h m)))
 
+pub delete-gone : (x : ℕ) (ys : List ℕ) → member x (delete x ys) ≡ false
+unfolding delete
+delete-gone x ys = not-kept-at x (λ z. not (eqb x z)) ys (rw (eq-eqb x x refl))
+
 -- ---- in another order
 
 pub member-rotate : (x : ℕ) (xs : List ℕ) → member x (rotate xs) ≡ member x xs
