@@ -2,16 +2,16 @@
 -- Assumes nothing.
 use Prim.Native.Nat.{ℕ, _<_, _≤_}
 use native.Mathlib.Omega.{arith}
-use mathlib.Core.Path.{_≡_, refl, sym, ap, _∙_, subst}
+use mathlib.Core.Path.{_≡_, sym, ap, _∙_}
 use mathlib.Core.Logic.{_≢_, _⊎_, inl, inr}
-use mathlib.Core.Bool.{true, false}
+use mathlib.Core.Bool.{false}
 use mathlib.Core.List.{List, [], _∷_}
 use mathlib.Core.Option.{Option}
 use lib.Dec.{eqb}
 use lib.IntN.{ℤ}
 use Rattle.plain.specs.Lists.{member}
-use Rattle.plain.specs.Members.{In, Distinct, All}
-use Rattle.plain.proofs.Members.{member-nil, member-here, member-there, not-here, not-there, not-cons, apart}
+use Rattle.plain.specs.Members.{In, All}
+use Rattle.plain.proofs.Members.{member-nil, not-here, not-there, not-cons, apart}
 use Rattle.plain.proofs.Folds.{all-in}
 use Rattle.cells.specs.Layout.{DEGREE, NEXT, LAST, HEAD}
 use Rattle.cells.specs.View.{rd, up}

@@ -1,18 +1,18 @@
 -- Rows that leave their lists one after the other: `taken-rep`, against the definition's `delisted`.
 -- Assumes nothing.
-use Prim.Native.Nat.{ℕ, suc, _+_, _<_, _≤_}
+use Prim.Native.Nat.{ℕ, _<_}
 use native.Mathlib.Omega.{arith}
 use mathlib.Core.Path.{_≡_, refl, sym, ap, _∙_}
 use mathlib.Core.Logic.{_≢_, _⊎_, inl, inr}
-use mathlib.Core.Bool.{true, false}
+use mathlib.Core.Bool.{false}
 use mathlib.Core.List.{List, [], _∷_, foldl}
 use lib.Dec.{eqb}
 use lib.IntN.{ℤ}
-use lib.ListN.{length, set, length-set}
+use lib.ListN.{length, length-set}
 use lib.Seq.{getD-set-same, getD-set-other}
 use Rattle.plain.specs.Lists.{member, delete}
 use Rattle.plain.specs.Members.{In, Distinct}
-use Rattle.plain.specs.Turns.{entries, times}
+use Rattle.plain.specs.Turns.{entries}
 use Rattle.plain.proofs.Logic.{clash}
 use Rattle.plain.proofs.Turns.{times-fold}
 use Rattle.plain.proofs.Members.{member-here, member-there, member-delete, delete-fresh, apart, not-in}

@@ -4,7 +4,7 @@ use Prim.Native.Nat.{ℕ, _<_, _≤_}
 use native.Mathlib.Omega.{arith}
 use mathlib.Core.Path.{_≡_, refl, sym, ap, _∙_, subst⁻¹}
 use mathlib.Core.Logic.{_≢_, _⊎_, inl, inr}
-use mathlib.Core.Bool.{true, false}
+use mathlib.Core.Bool.{false}
 use mathlib.Core.List.{List, [], _∷_}
 use borrow.Author.Tests.{lt-ltb}
 use lib.Dec.{eqb}
@@ -16,12 +16,12 @@ use Rattle.plain.specs.Turns.{upd}
 use Rattle.plain.proofs.Entries.{upd-same, upd-other}
 use Rattle.plain.proofs.Members.{not-here, not-there}
 use Rattle.cells.specs.Layout.{DEGREE, NEXT, LAST, HEAD}
-use Rattle.cells.specs.View.{rd, up, Room, roomy, spare}
+use Rattle.cells.specs.View.{rd, Room}
 use Rattle.cells.specs.Links.{parent}
 use Rattle.cells.proofs.Slices.{same?}
-use Rattle.cells.proofs.Laws.{mem, room-yes, rd-up-field}
+use Rattle.cells.proofs.Laws.{mem, room-yes}
 use Rattle.chain.specs.Model.{linkedBefore, pushed}
-use Rattle.chain.specs.Chained.{Links, links, Node, Seg, Chained}
+use Rattle.chain.specs.Chained.{links, Node, Seg, Chained}
 use Rattle.chain.proofs.Frame.{Same, all-but, seg-frame, fresh-degree}
 
 -- ---- what the memory keeps

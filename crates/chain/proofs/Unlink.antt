@@ -4,7 +4,7 @@ use Prim.Native.Nat.{ℕ, _<_, _≤_}
 use native.Mathlib.Omega.{arith}
 use mathlib.Core.Path.{_≡_, refl, sym, ap, _∙_, subst, subst⁻¹}
 use mathlib.Core.Logic.{_≢_, _⊎_, inl, inr, ⊎-elim}
-use mathlib.Core.Bool.{true, false, cond}
+use mathlib.Core.Bool.{false, cond}
 use mathlib.Core.List.{List, [], _∷_}
 use borrow.Author.Tests.{lt-ltb, eq-eqb, ne-eqb}
 use lib.Dec.{eqb}
@@ -20,7 +20,7 @@ use Rattle.cells.specs.Links.{parent}
 use Rattle.cells.proofs.Slices.{split, same?}
 use Rattle.cells.proofs.Laws.{mem, rd-up-field, room-yes}
 use Rattle.chain.specs.Model.{removed}
-use Rattle.chain.specs.Chained.{Links, links, Node, Seg, Chained}
+use Rattle.chain.specs.Chained.{Links, links, Seg, Chained}
 use Rattle.chain.proofs.Steps.{relinked-mid, relinked-front}
 use Rattle.chain.proofs.Frame.{Same, all-but, seg-frame, fresh-degree}
 

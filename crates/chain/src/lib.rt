@@ -1,7 +1,7 @@
 // The degree lists of the elimination: doubly linked, one for each degree, in the fields HEAD, NEXT, LAST and DEGREE of the scratch. The null link is n, where a
 // store does nothing. Nothing here asks for lists that make sense: a contract is the function's own model, and the laws of `proofs/` say what it does to the lists.
 ghost use mathlib.Core.Path.{_≡_};
-ghost use Prim.Native.Nat.{_+_, _<_, _≤_, _^_};
+ghost use Prim.Native.Nat.{_+_, _<_, _^_};
 ghost use Rattle.cells.specs.View.{Room, at};
 ghost use Rattle.chain.specs.Model.{relinked, removed, linkedBefore, pushed, removedAll, emptied, enlistedOne, enlistedAll};
 ghost use Rattle.chain.specs.First.{First};

@@ -1,5 +1,4 @@
 use borrow.Author.Needs.{needs}
-use native.Mathlib.Omega.{arith}
 use Prim.Native.Nat.{_-_}
 use Rattle.chain.proofs.Turn.{Passed, start, more, nothing, found}
 use Rattle.chain.proofs.find_pivot.Statement.{statement}
