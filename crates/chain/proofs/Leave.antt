@@ -2,24 +2,25 @@
 -- Assumes nothing.
 use Prim.Native.Nat.{ℕ, _<_}
 use native.Mathlib.Omega.{arith}
-use mathlib.Core.Path.{_≡_, refl, sym, ap, _∙_}
+use mathlib.Core.Path.{_≡_, refl, sym, ap, _∙_, subst}
 use mathlib.Core.Logic.{_≢_, _⊎_, inl, inr}
 use mathlib.Core.Bool.{false}
 use mathlib.Core.List.{List, [], _∷_, foldl}
 use lib.Dec.{eqb}
 use lib.IntN.{ℤ}
-use lib.ListN.{length, length-set}
+use lib.ListN.{length}
 use lib.Seq.{getD-set-same, getD-set-other}
 use Rattle.plain.specs.Lists.{member, delete}
 use Rattle.plain.specs.Members.{In, Distinct}
 use Rattle.plain.specs.Turns.{entries}
 use Rattle.plain.proofs.Logic.{clash}
 use Rattle.plain.proofs.Turns.{times-fold}
-use Rattle.plain.proofs.Members.{member-here, member-there, member-delete, delete-fresh, apart, not-in}
+use Rattle.plain.proofs.Members.{member-here, member-there, member-delete, delete-fresh, apart, not-in, not-cons, member-nil}
 use Rattle.definition.specs.State.{Graph, State, degree, queueOf}
 use Rattle.definition.specs.Pivot.{delist, delisted}
 use Rattle.facts.specs.Invariant.{Var, Queued}
-use Rattle.facts.proofs.Queues.{delisted-was, delisted-gone}
+use Rattle.facts.proofs.Sizes.{length-delisted}
+use Rattle.facts.proofs.Queues.{delisted-was, delisted-gone, delisted-stays}
 use Rattle.cells.specs.Layout.{DEGREE, NEXT, LAST, HEAD}
 use Rattle.cells.specs.View.{at, rd, Room}
 use Rattle.cells.specs.Links.{parent}
@@ -30,8 +31,8 @@ use Rattle.chain.proofs.Frame.{chained-lists, only-degree}
 use Rattle.chain.proofs.Unlink.{removed-rep, removed-other, removed-degree, removed-parent, removed-length, removed-room}
 
 pub size-delist : (g : Graph) (qs : List (List ℕ)) (v : ℕ) → length (delist g qs v) ≡ length qs
-unfolding delist
-size-delist g qs v = length-set qs (degree g v) (delete v (queueOf qs (degree g v)))
+unfolding delisted
+size-delist g qs v = length-delisted g (v ∷ []) qs
 
 -- row v stands in the list of its degree, and the memory has that degree
 pub record Stands (n : ℕ) (s : List ℤ) (g : Graph) (qs : List (List ℕ)) (v : ℕ) : Type 0 where
@@ -108,6 +109,36 @@ module _ (l : List ℤ) (n p k : ℕ) (s : List ℤ) where
   taken-queued t room w h d q =
       taken-rep (t .graph) (t .queues) room (w .size) h d
       (λ v m. record { same = q v m .1; low = w .bounded v (q v m .0) .1; there = w .all v (q v m .0) })
+
+-- ---- a pivot's step: the pivot leaves, and after other stores the collected rows do
+
+pub delisted-cons : (g : Graph) (qs : List (List ℕ)) (p : ℕ) (vs : List ℕ) → delisted g (delist g qs p) vs ≡ delisted g qs (p ∷ vs)
+unfolding delisted
+delisted-cons g qs p vs = refl
+
+module _ (n : ℕ) (t : State) (w : Queued n t) (p : ℕ) (pv : Var (t .graph) p) where
+  abbrev g : Graph
+  g = t .graph
+
+  pub pivot-left : (s : List ℤ) → Room n s → Chained n s (queueOf (t .queues)) → rd n DEGREE s p ≡ degree (t .graph) p
+      → Chained n (removed n s p) (queueOf (delist (t .graph) (t .queues) p))
+  pivot-left s room h e =
+      delist-rep n g s (t .queues) (w .size) h p (record { same = e; low = w .bounded p pv .1; there = w .all p pv }) room
+
+  there-still : (v : ℕ) → Var (t .graph) v → p ≢ v → In v (queueOf (delist (t .graph) (t .queues) p) (degree (t .graph) v))
+  unfolding delisted
+  there-still v var ne =
+      delisted-stays g (p ∷ []) (t .queues) (degree g v) v (not-cons v p [] (λ e. ne (sym e)) (member-nil v))
+      (omega (arith, w .size, w .bounded v var .1)) (w .all v var)
+
+  module _ (l : List ℤ) (from k : ℕ) (s : List ℤ) (room : Room n s) (h : Chained n s (queueOf (delist (t .graph) (t .queues) p)))
+      (d : Distinct (p ∷ entries (at l) from k))
+      (q : (v : ℕ) → In v (entries (at l) from k) → Var (t .graph) v × (rd n DEGREE s v ≡ degree (t .graph) v)) where
+    pub collected-left : Chained n (removedAll l n from k s) (queueOf (delisted (t .graph) (t .queues) (p ∷ entries (at l) from k)))
+    collected-left =
+        subst (λ (qs : List (List ℕ)). Chained n (removedAll l n from k s) (queueOf qs)) (delisted-cons g (t .queues) p (entries (at l) from k))
+        (taken-rep l n from k s g (delist g (t .queues) p) room (size-delist g (t .queues) p ∙ w .size) h (d .1)
+        (λ v m. record { same = q v m .1; low = w .bounded v (q v m .0) .1; there = there-still v (q v m .0) (apart p v (entries (at l) from k) (d .0) m) }))
 
 -- ---- what the memory keeps
 

@@ -11,10 +11,9 @@ use lib.Dec.{ltb, leb, eqb}
 use lib.IntN.{ℤ}
 use lib.ListN.{length, replicate, length-replicate}
 use Rattle.plain.specs.Lists.{member, upTo}
-use Rattle.plain.specs.Turns.{times, upd}
+use Rattle.plain.specs.Turns.{times}
 use Rattle.plain.proofs.Logic.{cond-has}
-use Rattle.plain.proofs.Members.{member-nil, not-cons}
-use Rattle.plain.proofs.Entries.{upd-same, upd-other}
+use Rattle.plain.proofs.Members.{member-nil}
 use Rattle.plain.proofs.Positions.{getD-same}
 use Rattle.plain.proofs.Turns.{times-keeps, times-simulates, times-upTo}
 use Rattle.definition.specs.State.{queueOf, pushFront, startDegree, startKind, isVariable, element, dense, variable, enlist, started}
@@ -29,7 +28,7 @@ use Rattle.cells.proofs.Laws.{mem}
 use Rattle.chain.specs.Model.{pushed, emptied, enlistedOne, enlistedAll}
 use Rattle.chain.specs.Chained.{Chained}
 use Rattle.chain.proofs.Frame.{chained-lists}
-use Rattle.chain.proofs.Fronts.{size-push, push-lists, front-rep}
+use Rattle.chain.proofs.Fronts.{size-push, push-fresh, front-rep}
 use Rattle.chain.proofs.Push.{pushed-other, pushed-parent, pushed-length, pushed-room, pushed-degree, pushed-degree-other}
 
 -- ---- no list has a front
@@ -137,11 +136,6 @@ module _ (n limit : ℕ) (nbrs : List (List ℕ)) (low : (v : ℕ) → v < n →
     abbrev d : ℕ
     d = startDegree nbrs k
 
-    later-by : (v e : ℕ) → suc k ≤ v → e < n → (e ≡ d) ⊎ (e ≢ d) → member v (upd (queueOf qs) d (k ∷ queueOf qs d) e) ≡ false
-    later-by v e a b (inl q) =
-        rw (q, upd-same (queueOf qs) d (k ∷ queueOf qs d)) (not-cons v k (queueOf qs d) (λ z. omega arith) (h .later v d (omega arith) (low k l)))
-    later-by v e a b (inr q) = rw (upd-other (queueOf qs) d (k ∷ queueOf qs d) e q) (h .later v e (omega arith) b)
-
     open-by : (b : Bool) → Opened (suc k) (cond b (pushed n m d k) m) (cond b (pushFront d k qs) qs)
     open-by true =
         record {
@@ -149,7 +143,7 @@ module _ (n limit : ℕ) (nbrs : List (List ℕ)) (low : (v : ℕ) → v < n →
           size = size-push qs d k ∙ h .size;
           lists = front-rep n m d k qs (h .size) (low k l) l (h .room) (h .lists) (λ e he. h .later k e (omega arith) he);
           lengths = λ v hv. pushed-other n m d k LEN v refl refl refl refl ∙ h .lengths v hv;
-          later = λ v e a b. ap (member v) (push-lists qs d k (omega (arith, h .size, low k l)) e) ∙ later-by v e a b (same? e d);
+          later = λ v e a b. push-fresh qs d k (omega (arith, h .size, low k l)) v e (λ z. omega arith) (h .later v e (omega arith) b);
         }
     open-by false =
         record { room = h .room; size = h .size; lists = h .lists; lengths = h .lengths; later = λ v e a b. h .later v e (omega arith) b }
