@@ -1,0 +1,5 @@
+-- Laws that the proofs of the checks share. None belongs to a function.
+pub mod Choices
+pub mod Orders
+pub mod Sizes
+pub mod Pending
