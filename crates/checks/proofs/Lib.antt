@@ -3,3 +3,6 @@ pub mod Choices
 pub mod Orders
 pub mod Sizes
 pub mod Pending
+pub mod Accepted
+pub mod Faults
+pub mod Table

@@ -10,8 +10,12 @@ ghost use lib.ListN.{length, getD, take};
 ghost use lib.Seq.{slice};
 ghost use Rattle.plain.specs.Lists.{every, rises};
 ghost use Rattle.definition.specs.Limits.{baseLimits, outside, listsRoom, scratchRoom, roomWithin};
-ghost use Rattle.definition.specs.Pattern.{columns, jumbled, climbs, badFirst, badTotal, badPointers, badRows};
-ghost use Rattle.checks.specs.Given.{patternOf, isRow};
+ghost use Rattle.definition.specs.Pattern.{columns, jumbled, climbs, badFirst, badPointers, badRows};
+ghost use Rattle.definition.specs.Answers.{answerOf, firstOf};
+ghost use Rattle.numbers.specs.Meaning.{answerMeant};
+ghost use Rattle.checks.specs.Given.{patternGiven, problemGiven, isRow, isNotZero, patternChecks};
+use numbers::Answer;
+use numbers::Settings;
 
 // The most columns and the most entries of a pattern.
 const MOST_COLUMNS: usize = 100000;
@@ -119,6 +123,34 @@ fn climbing(pointers: &[i32]) -> bool
     true
 }
 
+// Whether the first pointer is not 0.
+fn first_wrong(pointers: &[i32]) -> bool
+    requires { ⌜ 0 < length (now pointers) ⌝ }
+    ensures { λ r. ⌜ r ≡ isNotZero (getD (now (pointers .entry)) 0 (pos 0)) ⌝ }
+{
+    pointers[0] != 0
+}
+
+// Answer 5: the pointers' length, the first, their order, or the last one.
+pub fn pointers_wrong(n: usize, pointers: &[i32], rows: &[i32]) -> bool
+    requires { ⌜ n ≤ baseLimits .mostColumns ⌝ }
+    ensures { λ r. ⌜ r ≡ badPointers baseLimits (patternGiven (pos n) (now (pointers .entry)) (now (rows .entry))) ⌝ }
+{
+    if pointers.len() != n + 1 {
+        return true;
+    }
+    if first_wrong(pointers) {
+        return true;
+    }
+    if !climbing(pointers) {
+        return true;
+    }
+    let nnz = number_at(pointers, n);
+    MOST_ENTRIES < nnz || rows.len() < nnz
+}
+
+// ---- the rows
+
 // Whether a row is not below 0 and below n.
 fn row_right(row: i32, n: usize) -> bool
     ensures { λ r. ⌜ r ≡ isRow (pos n) row ⌝ }
@@ -161,4 +193,87 @@ fn column_rises(rows: &[i32], from: usize, to: usize) -> bool
         i += 1;
     }
     true
+}
+
+// Answer 6: one of the first nnz rows below 0, or n or more. Rows past nnz are not looked at.
+pub fn rows_wrong(n: usize, pointers: &[i32], rows: &[i32]) -> bool
+    requires { ⌜ badPointers baseLimits (patternGiven (pos n) (now pointers) (now rows)) ≡ false ⌝ }
+    ensures { λ r. ⌜ r ≡ badRows (patternGiven (pos n) (now (pointers .entry)) (now (rows .entry))) ⌝ }
+{
+    let nnz = number_at(pointers, n);
+    !rows_right(n, nnz, rows)
+}
+
+// Answer 1: some column has a row not above the row before it.
+pub fn is_jumbled(n: usize, pointers: &[i32], rows: &[i32]) -> bool
+    requires pointers { ⌜ badPointers baseLimits (patternGiven (pos n) (now pointers) (now rows)) ≡ false ⌝ }
+    requires rows { ⌜ badRows (patternGiven (pos n) (now pointers) (now rows)) ≡ false ⌝ }
+    ensures { λ r. ⌜ r ≡ jumbled (columns (patternGiven (pos n) (now (pointers .entry)) (now (rows .entry)))) ⌝ }
+{
+    let mut k = 0;
+    while k < n {
+        let from = number_at(pointers, k);
+        let to = number_at(pointers, k + 1);
+        if !column_rises(rows, from, to) {
+            return true;
+        }
+        k += 1;
+    }
+    false
+}
+
+// ---- the table
+
+// From answer 5 on: the pattern and the room.
+fn check_pattern(n: usize, pointers: &[i32], rows: &[i32], lists: usize, scratch: usize) -> Answer
+    requires { ⌜ n ≤ baseLimits .mostColumns ⌝ }
+    ensures { λ r. ⌜ answerMeant r ≡ firstOf (patternChecks (patternGiven (pos n) (now (pointers .entry)) (now (rows .entry))) lists scratch) ⌝ }
+{
+    if pointers_wrong(n, pointers, rows) {
+        return Answer::WrongPointers;
+    }
+    if rows_wrong(n, pointers, rows) {
+        return Answer::WrongRows;
+    }
+    if room_wrong(n, number_at(pointers, n), lists, scratch) {
+        return Answer::WrongRoom;
+    }
+    if is_jumbled(n, pointers, rows) {
+        return Answer::OrderedJumbled;
+    }
+    Answer::Ordered
+}
+
+// The number of columns of an accepted count.
+fn column_count(n: i32) -> usize
+    requires { ⌜ outside (baseLimits .mostColumns) n ≡ false ⌝ }
+    ensures { λ r. ⌜ (pos r ≡ n) × (r ≤ baseLimits .mostColumns) ⌝ }
+{
+    n as usize
+}
+
+// The whole table: the first check that applies is the answer.
+pub fn check(
+    n: i32,
+    pointers: &[i32],
+    rows: &[i32],
+    settings: Settings,
+    permutation: usize,
+    inverse: usize,
+    lists: usize,
+    scratch: usize,
+) -> Answer
+    ensures { λ r. ⌜ answerMeant r ≡ answerOf (problemGiven (patternGiven n (now (pointers .entry)) (now (rows .entry))) (settings .multiplier) (settings .aggressive) permutation inverse lists scratch) ⌝ }
+{
+    if count_wrong(n) {
+        return Answer::WrongCount;
+    }
+    if numbers::multiplier_wrong(settings.multiplier) {
+        return Answer::WrongMultiplier;
+    }
+    let count = column_count(n);
+    if outputs_wrong(count, permutation, inverse) {
+        return Answer::WrongOutputs;
+    }
+    check_pattern(count, pointers, rows, lists, scratch)
 }
