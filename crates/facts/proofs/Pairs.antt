@@ -8,7 +8,7 @@ use mathlib.Core.List.{List, [], _∷_, _++_, map}
 use lib.Dec.{eqb}
 use borrow.Author.Tests.{eqb-true, eq-eqb}
 use Rattle.plain.proofs.Logic.{and-left, and-right, clash, or-left, or-right, or-cases, and-both, none-if}
-use Rattle.plain.proofs.Members.{member-here, member-there}
+use Rattle.plain.proofs.Members.{no-member, member-here, member-there, member-cases}
 use Rattle.plain.specs.Lists.{member, consIf}
 use Rattle.plain.specs.Members.{Distinct}
 use Rattle.definition.specs.Neighbours.{Pair, pair, written}
@@ -27,20 +27,20 @@ touch-cases P v w p ps h a b c =
     (λ k. or-cases P (eqb v (p .other) && eqb w (p .one)) (touch v w ps) k
     (λ r. b (eqb-true v (p .other) (and-left (eqb v (p .other)) (eqb w (p .one)) r)) (eqb-true w (p .one) (and-right (eqb v (p .other)) (eqb w (p .one)) r))) c)
 
-touch-straight : (v w : ℕ) (p : Pair) (ps : List Pair) → v ≡ p .one → w ≡ p .other → touch v w (p ∷ ps) ≡ true
+pub touch-straight : (v w : ℕ) (p : Pair) (ps : List Pair) → v ≡ p .one → w ≡ p .other → touch v w (p ∷ ps) ≡ true
 unfolding touch
 touch-straight v w p ps a b = or-left (eqb v (p .one) && eqb w (p .other)) _ (and-both (eqb v (p .one)) (eqb w (p .other)) (eq-eqb v (p .one) a) (eq-eqb w (p .other) b))
 
-touch-crossed : (v w : ℕ) (p : Pair) (ps : List Pair) → v ≡ p .other → w ≡ p .one → touch v w (p ∷ ps) ≡ true
+pub touch-crossed : (v w : ℕ) (p : Pair) (ps : List Pair) → v ≡ p .other → w ≡ p .one → touch v w (p ∷ ps) ≡ true
 unfolding touch
 touch-crossed v w p ps a b =
     or-right (eqb v (p .one) && eqb w (p .other)) _ (or-left (eqb v (p .other) && eqb w (p .one)) _ (and-both (eqb v (p .other)) (eqb w (p .one)) (eq-eqb v (p .other) a) (eq-eqb w (p .one) b)))
 
-touch-there : (v w : ℕ) (p : Pair) (ps : List Pair) → touch v w ps ≡ true → touch v w (p ∷ ps) ≡ true
+pub touch-there : (v w : ℕ) (p : Pair) (ps : List Pair) → touch v w ps ≡ true → touch v w (p ∷ ps) ≡ true
 unfolding touch
 touch-there v w p ps h = or-right (eqb v (p .one) && eqb w (p .other)) _ (or-right (eqb v (p .other) && eqb w (p .one)) _ h)
 
-no-touch : {P : Type 0} (v w : ℕ) → touch v w [] ≡ true → P
+pub no-touch : {P : Type 0} (v w : ℕ) → touch v w [] ≡ true → P
 unfolding touch
 no-touch v w h = absurd (false≢true h)
 
@@ -62,6 +62,22 @@ touch-map P v w j [] h a b = no-touch v w h
 touch-map P v w j (i ∷ is) h a b =
     touch-cases P v w (pair i j) (map (λ x. pair x j) is) h (λ x y. a i (member-here i is) x y) (λ x y. b i (member-here i is) x y)
     (λ k. touch-map P v w j is k (λ x m. a x (member-there x i is m)) (λ x m. b x (member-there x i is m)))
+
+pub touch-left : (v w : ℕ) (xs ys : List Pair) → touch v w xs ≡ true → touch v w (xs ++ ys) ≡ true
+touch-left v w [] ys h = no-touch v w h
+touch-left v w (p ∷ xs) ys h =
+    touch-cases (touch v w (p ∷ xs ++ ys) ≡ true) v w p xs h (λ a b. touch-straight v w p (xs ++ ys) a b) (λ a b. touch-crossed v w p (xs ++ ys) a b)
+    (λ k. touch-there v w p (xs ++ ys) (touch-left v w xs ys k))
+
+pub touch-right : (v w : ℕ) (xs ys : List Pair) → touch v w ys ≡ true → touch v w (xs ++ ys) ≡ true
+touch-right v w [] ys h = h
+touch-right v w (p ∷ xs) ys h = touch-there v w p (xs ++ ys) (touch-right v w xs ys h)
+
+pub touch-mapped : (i j : ℕ) (is : List ℕ) → member i is ≡ true → touch i j (map (λ x. pair x j) is) ≡ true
+touch-mapped i j [] h = no-member i h
+touch-mapped i j (x ∷ is) h =
+    member-cases (touch i j (pair x j ∷ map (λ y. pair y j) is) ≡ true) i x is h (λ e. touch-straight i j (pair x j) (map (λ y. pair y j) is) e refl)
+    (λ n m. touch-there i j (pair x j) (map (λ y. pair y j) is) (touch-mapped i j is m))
 
 -- no pair stands twice
 abbrev pub Once : List Pair → Type 0

@@ -45,7 +45,7 @@ asc-distinct : (xs : List ℕ) → Asc xs → Distinct xs
 asc-distinct [] a = tt
 asc-distinct (x ∷ xs) a = (none-if (member x xs) (λ m. absurd (omega (arith, a .0 x m))), asc-distinct xs (a .1))
 
-above-was : (k : ℕ) (xs : List ℕ) (i : ℕ) → member i (above k xs) ≡ true → (member i xs ≡ true) × (i < k)
+pub above-was : (k : ℕ) (xs : List ℕ) (i : ℕ) → member i (above k xs) ≡ true → (member i xs ≡ true) × (i < k)
 unfolding above leading
 above-was k [] i m = no-member i m
 above-was k (x ∷ xs) i m = go (above-was k xs i) (ltb x k) refl m
@@ -102,7 +102,7 @@ record Good (n top : ℕ) (m : Scan) : Type 0 where
   inside : (j i : ℕ) → member i (getD (m .waiting) j []) ≡ true → i < n
 
 -- a place after one is set: the new list, or none, at it, and the old ones elsewhere
-set-cases : (P : ℕ → List ℕ → Type 0) (ws : List (List ℕ)) (j : ℕ) (l : List ℕ) → P j l → P j [] → ((x : ℕ) → x ≢ j → P x (getD ws x [])) → (x : ℕ) → P x (getD (set ws j l) x [])
+pub set-cases : (P : ℕ → List ℕ → Type 0) (ws : List (List ℕ)) (j : ℕ) (l : List ℕ) → P j l → P j [] → ((x : ℕ) → x ≢ j → P x (getD ws x [])) → (x : ℕ) → P x (getD (set ws j l) x [])
 set-cases P ws j l a b c x =
     either (P x (getD (set ws j l) x [])) (eqb x j)
     (λ e. rw (eqb-true x j e) (put-cases (P j) ws j l a b))
@@ -269,7 +269,7 @@ module _ (cols : List (List ℕ)) (r : (k : ℕ) → rises (getD cols k []) ≡ 
       (λ h. touch-append ⊥ x x (scanned cols .met) (flatMap (leftOver (scanned cols)) (upTo n)) h (good .apart x)
       (λ k. left-touch ⊥ x x (upTo n) k (λ j i mj mi a b. absurd (omega (arith, good .later j i mi))) (λ j i mj mi a b. absurd (omega (arith, good .later j i mi)))))
 
-  all-low : (v w : ℕ) → touch v w (allPairs cols) ≡ true → v < n
+  pub all-low : (v w : ℕ) → touch v w (allPairs cols) ≡ true → v < n
   unfolding allPairs
   all-low v w h = touch-append (v < n) v w (scanned cols .met) (flatMap (leftOver (scanned cols)) (upTo n)) h (good .low v w)
       (λ k. left-touch (v < n) v w (upTo n) k
@@ -277,7 +277,7 @@ module _ (cols : List (List ℕ)) (r : (k : ℕ) → rises (getD cols k []) ≡ 
 
   -- ---- the lists
 
-  row-in : (v : ℕ) → v < n → getD (neighbours cols) v [] ≡ written v (allPairs cols)
+  pub row-in : (v : ℕ) → v < n → getD (neighbours cols) v [] ≡ written v (allPairs cols)
   unfolding neighbours
   row-in v l = getD-counted (λ u. written u (allPairs cols)) [] 0 n v l ∙ ap (λ (u : ℕ). written u (allPairs cols)) (omega arith)
 
@@ -290,14 +290,14 @@ module _ (cols : List (List ℕ)) (r : (k : ℕ) → rises (getD cols k []) ≡ 
   length-neighbours = length-counted (λ u. written u (allPairs cols)) 0 n
 
   -- w is in v's list exactly where a pair joins them
-  row-touch : (v w : ℕ) → member w (getD (neighbours cols) v []) ≡ true → touch v w (allPairs cols) ≡ true
+  pub row-touch : (v w : ℕ) → member w (getD (neighbours cols) v []) ≡ true → touch v w (allPairs cols) ≡ true
   row-touch v w h = go (decLt v n)
     where
       go : Dec (v < n) → touch v w (allPairs cols) ≡ true
       go (yes l) = sym (member-written v w (allPairs cols)) ∙ ap (member w) (sym (row-in v l)) ∙ h
       go (no l) = no-member w (ap (member w) (sym (row-out v (omega arith))) ∙ h)
 
-  touch-row : (v w : ℕ) → touch v w (allPairs cols) ≡ true → member w (getD (neighbours cols) v []) ≡ true
+  pub touch-row : (v w : ℕ) → touch v w (allPairs cols) ≡ true → member w (getD (neighbours cols) v []) ≡ true
   touch-row v w h = ap (member w) (row-in v (all-low v w h)) ∙ member-written v w (allPairs cols) ∙ h
 
   pub neighbourly : Neighbourly (neighbours cols)

@@ -1,6 +1,6 @@
 -- The statistics that grow element by element, the dense block last, end as the definition's `sixOf`.
 -- Assumes nothing.
-use Prim.Native.Nat.{ℕ, zero, suc, _+_, _/_, max}
+use Prim.Native.Nat.{ℕ, _+_, _/_, max}
 use native.Mathlib.Nat.{add-zero, zero-add, add-assoc}
 use mathlib.Core.Path.{_≡_, refl, sym, ap, _∙_}
 use mathlib.Core.List.{List, [], _∷_, _++_, map, foldl, foldl-append, foldl-map}

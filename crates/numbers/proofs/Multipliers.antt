@@ -8,7 +8,7 @@ use mathlib.Core.Path.{_≡_, refl, sym, ap, _∙_, subst}
 use mathlib.Core.Bool.{Bool, true, false, not, _&&_, _||_, cond, true≢false, false≢true}
 use mathlib.Core.Logic.{_⊎_, inl, inr}
 use mathlib.Core.Option.{none, some}
-use lib.Dec.{T, ltb, leb, eqb, lit<, ltb→lt, leb→le, lt→ltb, eqb-refl}
+use lib.Dec.{T, ltb, leb, eqb, lit<, ltb→lt, leb→le, eqb-refl}
 use lib.IntN.{ℤ, pos, negsuc}
 use lib.Pow.{pow-add, pow-pos, pow-mono, pow-lt, shl-lt, mod-pow-add}
 use lib.Ieee.{Float, nan, inf, fin, binary64, up, down, round, rem, lt, eq, ne, fits, level}
@@ -16,11 +16,10 @@ use lib.Ieee.Bits.{is-true}
 use lib.Ieee.Digits.{back}
 use lib.Ieee.Exact.{HasValue, round-exact}
 use lib.Ieee.Fits.{down-pos, up-pos, and-l, and-r, eq→eqb}
-use lib.Ieee.Positive.{first-pos}
-use borrow.Author.Tests.{le-ltb, ltb-true, ltb-false, eqb-true}
+use borrow.Author.Tests.{le-ltb, ltb-true, ltb-false}
 use Rattle.plain.specs.Lists.{isNone}
-use Rattle.definition.specs.Threshold.{Rule, fullRows, multiplier, inQuarters, ruleOf}
-use Rattle.numbers.proofs.Exact.{test-ext, is-zero}
+use Rattle.definition.specs.Threshold.{fullRows, multiplier, inQuarters, ruleOf}
+use Rattle.numbers.proofs.Exact.{is-zero}
 use Rattle.numbers.proofs.Rules.{above-not, below-is, zero-in, plus-none, minus-none, no-size, zero-size}
 
 -- `x != x`

@@ -4,16 +4,15 @@ use Prim.Native.Nat.{ℕ, _*_, _/_, _%_, _≤_, _<_}
 use native.Mathlib.Nat.{le-refl, mul-le-mul, le-of-mul-le-mul-right, div-add-mod', zero-mul, zero-mod, zero-div}
 use native.Mathlib.Omega.{arith}
 use mathlib.Core.Path.{_≡_, refl, sym, ap, _∙_}
-use mathlib.Core.Bool.{Bool, true, false, not, _&&_, cond, true≢false, false≢true}
+use mathlib.Core.Bool.{Bool, true, false, not, _&&_, cond, true≢false}
 use mathlib.Core.Option.{Option, none, some}
 use lib.Dec.{leb, ltb, eqb}
 use lib.IntN.{ℤ}
 use lib.Ieee.{Float, nan, inf, fin, up, down}
-use lib.Ieee.Fits.{down-pos}
 use lib.Ieee.Exact.{HasValue}
-use borrow.Author.Tests.{eq-eqb, eqb-true, le-leb, leb-true, ltb-false}
+use borrow.Author.Tests.{eqb-true, le-leb, leb-true, ltb-false}
 use Rattle.plain.specs.Lists.{isNone}
-use Rattle.plain.proofs.Logic.{and-both, and-left, and-right, none-if}
+use Rattle.plain.proofs.Logic.{and-left, and-right, none-if}
 use Rattle.definition.specs.Threshold.{Rule, fullRows, multiplier, quartersOf, inQuarters, ruleOf}
 
 -- ---- quarters

@@ -2,11 +2,11 @@
 -- For t and n up to any N with N² and 16,000,000 · N below 2 ^ 53, so that every product has at most 53 binary digits. Two million is such an N.
 -- Assumes nothing.
 use Prim.Native.Nat.{ℕ, _+_, _*_, _^_, _≤_, _<_}
-use native.Mathlib.Nat.{le-refl, lt-of-le-of-lt, mul-one, mul-comm, mul-le-mul}
+use native.Mathlib.Nat.{lt-of-le-of-lt, mul-one, mul-comm, mul-le-mul}
 use native.Mathlib.Decide.{decLe}
 use native.Mathlib.Omega.{arith}
 use mathlib.Core.Path.{_≡_, refl, ap, _∙_}
-use mathlib.Core.Bool.{true, false}
+use mathlib.Core.Bool.{false}
 use lib.Dec.{leb, lit<, lit≤}
 use lib.IntN.{pos}
 use lib.Ieee.{Float, binary64, mul, le, ofInt}
@@ -39,6 +39,10 @@ up-to-start x n s t h =
     below : 16 * (t * t) ≤ quartersOf x * quartersOf x * n → Dec (s + 1 ≤ t) → t ≤ s
     below l (yes k) = absurd (omega (arith, h .high, squares (s + 1) t k))
     below l (no k) = omega arith
+
+-- the limit on n that is to come leaves room too
+pub two-million : (2000000 * 2000000 < 2 ^ 53) × (16000000 * 2000000 < 2 ^ 53)
+two-million = (lit< tt, lit< tt)
 
 module _ (N : ℕ) (short : N * N < 2 ^ 53) (long : 16000000 * N < 2 ^ 53) (x : Float) (n : ℕ) (hn : n ≤ N) (Q : Quartered x) where
   sixteenths : quartersOf x * quartersOf x ≤ 16000000

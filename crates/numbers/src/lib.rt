@@ -3,7 +3,7 @@ ghost use mathlib.Core.Path.{_≡_};
 ghost use mathlib.Core.Bool.{false};
 ghost use mathlib.Core.List.{[]};
 ghost use mathlib.Core.Option.{some};
-ghost use Prim.Native.Nat.{_+_, _≤_, _<_, _^_, min, max};
+ghost use Prim.Native.Nat.{_+_, _≤_, _^_, min, max};
 ghost use lib.Dec.{leb};
 ghost use lib.IntN.{pos};
 ghost use Rattle.plain.specs.Lists.{isNone};
@@ -210,7 +210,7 @@ pub fn first_statistics(dense: usize) -> Statistics
 }
 
 // q = f·r + (f-1)·f/2, signed: at f = 0 the factor f-1 is negative and the gain is 0.
-pub fn gain_q(f: usize, r: usize) -> u64
+fn gain_q(f: usize, r: usize) -> u64
     requires { ⌜ f + r ≤ baseLimits .mostColumns ⌝ }
     ensures { λ q. ⌜ (q ≡ gainQ f r) × (q ≤ 2 ^ 60) ⌝ }
 {
@@ -220,7 +220,7 @@ pub fn gain_q(f: usize, r: usize) -> u64
 }
 
 // s = f·r² + r·(f-1)·f + (f-1)·f·(2f-1)/6, signed.
-pub fn gain_s(f: usize, r: usize) -> u64
+fn gain_s(f: usize, r: usize) -> u64
     requires { ⌜ f + r ≤ baseLimits .mostColumns ⌝ }
     ensures { λ s. ⌜ (s ≡ gainS f r) × (s ≤ 2 ^ 60) ⌝ }
 {

@@ -7,13 +7,14 @@ use mathlib.Core.Logic.{_≢_}
 use mathlib.Core.Bool.{Bool, cond, true, false, not, false≢true}
 use mathlib.Core.List.{List, [], _∷_}
 use lib.Dec.{eqb, ltb}
-use lib.ListN.{length}
+use lib.ListN.{length, getD}
 use borrow.Author.Tests.{eq-eqb, ne-eqb, eqb-true, eqb-false, ltb-true, ltb-false}
 use Rattle.plain.proofs.Folds.{all-of, all-imply, all-kept}
 use Rattle.plain.proofs.Logic.{eqb-comm, either, or-elim}
-use Rattle.plain.proofs.Members.{member-first, member-there, no-member, member-either}
-use Rattle.plain.proofs.Repeats.{length-countUp}
-use Rattle.plain.proofs.Sums.{total-keep, total-same, total-ones, total-swap}
+use Rattle.plain.proofs.Members.{member-first, member-there, no-member, member-either, kept-passes, member-kept, member-upTo}
+use Rattle.plain.proofs.Entries.{counted-whole}
+use Rattle.plain.proofs.Repeats.{length-countUp, length-within, distinct-keep, distinct-countUp}
+use Rattle.plain.proofs.Sums.{total-keep, total-same, total-ones, total-swap, total-map}
 use Rattle.plain.specs.Lists.{total, countUp, keep, upTo, delete, consIf, member}
 use Rattle.plain.specs.Members.{same, count, All, In, Distinct}
 
@@ -145,3 +146,30 @@ count-once x (y ∷ ys) d h =
     (λ t. let q : x ≡ y = eqb-true x y t in
     rw t (omega (arith, not-count x ys (ap (λ (z : ℕ). member z ys) q ∙ d .0))))
     (λ t. rw t (omega (arith, count-once x ys (d .1) (or-elim (In x ys) (member-either x y ys h) (λ q. absurd (eqb-false x y t q)) (λ q. q)))))
+
+-- ---- double counting
+
+-- a sum over a list, by its places
+pub total-places : {A : Type 0} (f : A → ℕ) (d : A) (xs : List A) → total f xs ≡ total (λ k. f (getD xs k d)) (upTo (length xs))
+total-places f d xs = ap (total f) (sym (counted-whole xs d)) ∙ total-map f (λ k. getD xs k d) (upTo (length xs))
+
+-- of 0, 1, .., n - 1 as many stand in a list as it has entries, or fewer
+pub members-below : (n : ℕ) (xs : List ℕ) → total (λ i. cond (member i xs) 1 0) (upTo n) ≤ length xs
+members-below n xs =
+    omega (
+      arith,
+      total-keep (λ i. 1) (λ i. member i xs) (upTo n),
+      total-ones (keep (λ i. member i xs) (upTo n)),
+      length-within (keep (λ i. member i xs) (upTo n)) xs (distinct-keep (λ i. member i xs) (upTo n) (distinct-countUp 0 n)) (λ x m. kept-passes x (λ i. member i xs) (upTo n) m),
+    )
+
+-- and just as many where it has none twice, and all of them are below n
+pub members-all : (n : ℕ) (xs : List ℕ) → Distinct xs → ((x : ℕ) → In x xs → x < n) → total (λ i. cond (member i xs) 1 0) (upTo n) ≡ length xs
+members-all n xs d h =
+    omega (
+      arith,
+      members-below n xs,
+      total-keep (λ i. 1) (λ i. member i xs) (upTo n),
+      total-ones (keep (λ i. member i xs) (upTo n)),
+      length-within xs (keep (λ i. member i xs) (upTo n)) d (λ x m. member-kept x (λ i. member i xs) (upTo n) m (member-upTo x n (h x m))),
+    )

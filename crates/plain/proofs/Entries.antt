@@ -3,7 +3,7 @@
 use Prim.Native.Nat.{ℕ, zero, suc, _+_, _≤_, _<_}
 use native.Mathlib.Omega.{arith}
 use native.Mathlib.Nat.{add-zero, zero-add, suc-add, add-suc}
-use mathlib.Core.Path.{_≡_, refl, ap, _∙_}
+use mathlib.Core.Path.{_≡_, refl, sym, ap, _∙_}
 use mathlib.Core.Logic.{_≢_, _⊎_, inl, ⊎-elim}
 use mathlib.Core.List.{List, [], _∷_, _++_, map}
 use lib.ListN.{length, getD, set, take, drop}
@@ -113,3 +113,7 @@ module _ {A : Type 0} where
       let e : p + suc t ≡ suc p + t = omega arith in
       rw (upd-other F (p + suc t) x p (omega arith), e)
       (ap (λ (y : List A). F p ∷ y) (entries-set F x (suc p) k t (omega arith)))
+
+-- a list by its places
+pub counted-whole : {A : Type 0} (l : List A) (d : A) → map (λ i. getD l i d) (countUp 0 (length l)) ≡ l
+counted-whole l d = sym (entries-counted (λ i. getD l i d) 0 (length l)) ∙ entries-whole l d

@@ -4,10 +4,10 @@ use Prim.Native.Nat.{ℕ}
 use mathlib.Core.Path.{ap, _≡_, refl, sym, _∙_}
 use mathlib.Core.Logic.{_≢_}
 use mathlib.Core.Bool.{Bool, true, false, _||_, cond}
-use mathlib.Core.List.{List, [], _∷_, _++_, reverse, reverseAux, foldl, flatMap}
-use Rattle.plain.proofs.Logic.{or-left, or-right, clash}
+use mathlib.Core.List.{List, [], _∷_, _++_, reverse, reverseAux, foldl, flatMap, append-assoc}
+use Rattle.plain.proofs.Logic.{or-left, or-right, clash, and-left, and-right}
 use Rattle.plain.proofs.Members.{member-first, member-there, no-member, member-cases, member-here, not-there, not-here}
-use Rattle.plain.specs.Lists.{consIf, keep, member}
+use Rattle.plain.specs.Lists.{consIf, keep, member, every, leading, trailing}
 use Rattle.plain.specs.Members.{All, In, Distinct}
 use Rattle.plain.proofs.Turns.{turn}
 
@@ -64,6 +64,34 @@ pub all-kept : {A : Type 0} (P : A → Type 0) (p : A → Bool) (xs : List A) �
 unfolding keep
 all-kept P p [] a = tt
 all-kept P p (x ∷ xs) a = all-consIf (λ y. (p y ≡ true) × P y) (p x) x (keep p xs) (λ e. (e, a .0)) (all-kept P p xs (a .1))
+
+-- a test of every element
+pub every-all : {A : Type 0} (p : A → Bool) (xs : List A) → every p xs ≡ true → All (λ x. p x ≡ true) xs
+unfolding every
+every-all p [] h = tt
+every-all p (x ∷ xs) h = (and-left (p x) (every p xs) h, every-all p xs (and-right (p x) (every p xs) h))
+
+-- tests that agree keep the same
+pub keep-same : {A : Type 0} (p q : A → Bool) (xs : List A) → All (λ x. p x ≡ q x) xs → keep p xs ≡ keep q xs
+unfolding keep
+keep-same p q [] h = refl
+keep-same p q (x ∷ xs) h = rw (h .0, keep-same p q xs (h .1))
+
+-- ---- parts in a row
+
+pub leading-trailing : {A : Type 0} (p : A → Bool) (xs : List A) → leading p xs ++ trailing p xs ≡ xs
+unfolding leading trailing
+leading-trailing p [] = refl
+leading-trailing {A = A} p (x ∷ xs) = go (leading-trailing p xs) (p x)
+  where
+    go : leading p xs ++ trailing p xs ≡ xs → (b : Bool) → cond b (x ∷ leading p xs) [] ++ cond b (trailing p xs) (x ∷ xs) ≡ x ∷ xs
+    go ih true = ap (λ (l : List A). x ∷ l) ih
+    go ih false = refl
+
+pub flatMap-append : {A B : Type 0} (f : B → List A) (xs ys : List B) → flatMap f (xs ++ ys) ≡ flatMap f xs ++ flatMap f ys
+unfolding flatMap
+flatMap-append f [] ys = refl
+flatMap-append {A = A} f (x ∷ xs) ys = ap (λ (l : List A). f x ++ l) (flatMap-append f xs ys) ∙ sym (append-assoc (f x) (flatMap f xs) (flatMap f ys))
 
 -- ---- one row through a fold: what is looked up in it changes at that row's own turn, or wherever a turn hits it
 

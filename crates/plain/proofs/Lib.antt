@@ -3,6 +3,7 @@ pub mod Logic
 pub mod Folds
 pub mod Members
 pub mod Repeats
+pub mod Rising
 pub mod Sums
 pub mod Counting
 pub mod Fibres
@@ -12,3 +13,4 @@ pub mod Permutations
 pub mod Entries
 pub mod Turns
 pub mod Falling
+pub mod Classes

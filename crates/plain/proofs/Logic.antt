@@ -50,6 +50,10 @@ pub or-false-left : (a b : Bool) → a || b ≡ false → a ≡ false
 or-false-left true b h = h
 or-false-left false b h = refl
 
+pub or-false-right : (a b : Bool) → a || b ≡ false → b ≡ false
+or-false-right true b h = absurd (false≢true (sym h))
+or-false-right false b h = h
+
 pub none-if : (b : Bool) → (b ≡ true → ⊥) → b ≡ false
 none-if true h = absurd (h refl)
 none-if false h = refl

@@ -131,6 +131,17 @@ not-kept x p xs h = rw (member-keep x p xs, h) (at-false (p x))
 pub not-kept-at : (x : ℕ) (p : ℕ → Bool) (xs : List ℕ) → p x ≡ false → member x (keep p xs) ≡ false
 not-kept-at x p xs h = rw (member-keep x p xs, h)
 
+-- tests that agree on the list
+pub keep-same : (p q : ℕ → Bool) (xs : List ℕ) → ((x : ℕ) → In x xs → p x ≡ q x) → keep p xs ≡ keep q xs
+unfolding keep
+keep-same p q [] h = refl
+keep-same p q (x ∷ xs) h = rw (h x (member-here x xs), keep-same p q xs (λ y m. h y (member-there y x xs m)))
+
+pub keep-every : (p : ℕ → Bool) (xs : List ℕ) → ((x : ℕ) → In x xs → p x ≡ true) → keep p xs ≡ xs
+unfolding keep
+keep-every p [] h = refl
+keep-every p (x ∷ xs) h = rw (h x (member-here x xs), keep-every p xs (λ y m. h y (member-there y x xs m)))
+
 pub member-delete : (x y : ℕ) (ys : List ℕ) → x ≢ y → member y ys ≡ true → member y (delete x ys) ≡ true
 unfolding delete
 member-delete x y ys n h = member-kept y (λ z. not (eqb x z)) ys (rw (ne-eqb x y n)) h

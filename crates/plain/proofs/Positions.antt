@@ -4,17 +4,17 @@ use Prim.Native.Nat.{_-_, ℕ, _<_, zero, suc, _≤_, _+_}
 use native.Mathlib.Omega.{arith}
 use mathlib.Core.Path.{refl, _≡_, sym, _∙_, ap}
 use mathlib.Core.Logic.{_≢_}
-use mathlib.Core.Bool.{cond, false≢true, _&&_}
+use mathlib.Core.Bool.{Bool, true, cond, false≢true, _&&_}
 use mathlib.Core.List.{List, [], _∷_, _++_, map}
 use lib.Dec.{eqb, ltb}
 use lib.ListN.{getD, length, drop, length-map, replicate, set}
 use lib.Seq.{getD-append-add, getD-set-same, set-out, getD-set-other}
 use borrow.Author.Tests.{eqb-true, eqb-false, eq-eqb, ne-eqb, ltb-true, ltb-false}
-use Rattle.plain.proofs.Logic.{either, or-elim}
+use Rattle.plain.proofs.Logic.{either, or-elim, and-left, and-right}
 use Rattle.plain.proofs.Members.{member-first, member-there, no-member, member-either}
-use Rattle.plain.proofs.Repeats.{length-countUp}
-use Rattle.plain.specs.Lists.{member, position, countUp}
-use Rattle.plain.specs.Members.{In, Distinct}
+use Rattle.plain.proofs.Repeats.{length-countUp, length-below, length-missing}
+use Rattle.plain.specs.Lists.{member, position, countUp, every}
+use Rattle.plain.specs.Members.{In, Distinct, All}
 
 pub member-getD : (xs : List ℕ) (k : ℕ) → k < length xs → In (getD xs k 0) xs
 member-getD [] k h = absurd (omega arith)
@@ -87,6 +87,11 @@ getD-behind xs ys d k h =
 
 -- ---- a value for each of a, a + 1, ..
 
+pub getD-mapped : {A B : Type 0} (f : A → B) (l : List A) (k : ℕ) (d : A) (e : B) → k < length l → getD (map f l) k e ≡ f (getD l k d)
+getD-mapped f [] k d e h = absurd (omega arith)
+getD-mapped f (x ∷ l) zero d e h = refl
+getD-mapped f (x ∷ l) (suc k) d e h = getD-mapped f l k d e (omega arith)
+
 pub getD-counted : {A : Type 0} (f : ℕ → A) (d : A) (a k i : ℕ) → i < k → getD (map f (countUp a k)) i d ≡ f (a + i)
 unfolding countUp
 getD-counted f d a zero i h = absurd (omega arith)
@@ -117,3 +122,30 @@ set-has P (x ∷ l) zero a zero p q = q refl
 set-has P (x ∷ l) zero a (suc j) p q = p
 set-has P (x ∷ l) (suc i) a zero p q = p
 set-has P (x ∷ l) (suc i) a (suc j) p q = set-has P l i a j p (λ e. q (ap suc e))
+
+-- an entry of the numbers from a on
+pub getD-countUp : (a k i d : ℕ) → i < k → getD (countUp a k) i d ≡ a + i
+unfolding countUp
+getD-countUp a zero i d h = absurd (omega arith)
+getD-countUp a (suc k) zero d h = omega arith
+getD-countUp a (suc k) (suc i) d h = omega (arith, getD-countUp (suc a) k i d (omega arith))
+
+-- a number below n has its place below n in any list of such numbers without repeats, there or not
+pub position-below-bound : (n : ℕ) (xs : List ℕ) → Distinct xs → ((x : ℕ) → In x xs → x < n) → (e : ℕ) → e < n → position e xs < n
+position-below-bound n xs d h e l =
+    either (position e xs < n) (member e xs)
+    (λ t. omega (arith, position-is e xs t .0, length-below n xs d h))
+    (λ t. omega (arith, position-le e xs, length-missing n xs e d h l t))
+
+-- ---- what holds of every element, at a place
+
+pub all-at : {A : Type 0} (P : A → Type 0) (xs : List A) (d : A) → All P xs → (k : ℕ) → k < length xs → P (getD xs k d)
+all-at P [] d h k l = absurd (omega arith)
+all-at P (x ∷ xs) d h zero l = h .0
+all-at P (x ∷ xs) d h (suc k) l = all-at P xs d (h .1) k (omega arith)
+
+pub every-at : {A : Type 0} (p : A → Bool) (xs : List A) (d : A) → every p xs ≡ true → p d ≡ true → (k : ℕ) → p (getD xs k d) ≡ true
+unfolding every
+every-at p [] d h q k = q
+every-at p (x ∷ xs) d h q zero = and-left (p x) (every p xs) h
+every-at p (x ∷ xs) d h q (suc k) = every-at p xs d (and-right (p x) (every p xs) h) q k

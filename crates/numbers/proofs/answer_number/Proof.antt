@@ -1,7 +1,7 @@
 -- `numbers::answer_number` meets its contract, answer by answer.
 -- Assumes nothing.
 use borrow.Author.Needs.{needs}
-use mathlib.Core.Path.{_≡_, sym, ap}
+use mathlib.Core.Path.{sym, ap}
 use lib.IntN.{ℤ, pos}
 use Rattle.definition.specs.Answers.{numberOf}
 use Rattle.numbers.specs.declared.Answer.{Answer}

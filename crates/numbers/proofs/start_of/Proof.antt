@@ -1,9 +1,8 @@
 -- `numbers::start_of` meets its contract, by the case of the rule.
 -- Assumes nothing.
 use borrow.Author.Needs.{needs}
-use Prim.Native.Nat.{_≤_, min}
 use native.Mathlib.Omega.{arith}
-use mathlib.Core.Path.{_≡_, sym, ap, subst, _∙_}
+use mathlib.Core.Path.{ap, subst}
 use Rattle.definition.specs.Threshold.{start}
 use Rattle.numbers.specs.declared.DenseRule.{DenseRule}
 use Rattle.numbers.specs.Meaning.{ruleMeant, Accepted}

@@ -1,6 +1,5 @@
 -- `numbers::within` meets its contract: each float operation is exact.
 -- Assumes nothing.
-use Prim.Native.Nat.{_≤_}
 use native.Mathlib.Omega.{arith}
 use lib.Dec.{le→leb, lit<}
 use lib.Ieee.{inFloat}
