@@ -4,18 +4,18 @@ use Prim.Native.Nat.{ℕ, zero, suc, _+_, _<_, _^_}
 use native.Mathlib.Omega.{arith}
 use native.Mathlib.Numerals.{add-one}
 use mathlib.Core.Path.{_≡_, refl, sym, ap, _∙_}
-use mathlib.Core.Bool.{Bool, true, false, not, _&&_, _||_, true≢false}
-use lib.Dec.{eqb, leb}
+use mathlib.Core.Bool.{Bool, true, false, not, _&&_}
+use lib.Dec.{leb}
 use lib.IntN.{ℤ, pos, negsuc}
-use lib.Signed.{mag}
+use lib.Signed.{mag, leZ}
 use lib.ListN.{length}
 use mir.Syntax.{w32}
 use mir.Val.{hbits, toZ, ofZ}
-use borrow.Author.Tests.{eqb-true, eq-eqb, ne-eqb, lt-leb}
+use borrow.Author.Tests.{eq-eqb, ne-eqb, lt-leb}
 use Rattle.definition.specs.Limits.{baseLimits}
 use Rattle.definition.specs.Pattern.{Pattern, columnCount, badLength, badFirst, badOrder, badTotal, badPointers}
-use Rattle.checks.specs.Given.{isNotZero}
 use Rattle.checks.proofs.Orders.{read}
+use Rattle.checks.proofs.Pending.{at}
 
 pub length-off : (a : Pattern) → (length (a .pointers) ≡ columnCount a + 1 → ⊥) → badLength a ≡ true
 unfolding badLength
@@ -25,24 +25,26 @@ pub length-right : (a : Pattern) → length (a .pointers) ≡ columnCount a + 1 
 unfolding badLength
 length-right a e = ap not (eq-eqb (length (a .pointers)) (suc (columnCount a)) (e ∙ add-one (columnCount a)))
 
--- the code's test of the first pointer, on its bits
-pub not-zero-is : (z : ℤ) → mag z < 2 ^ hbits w32 → not (eqb (ofZ w32 z) 0) ≡ isNotZero z
-not-zero-is z h = go (eqb (ofZ w32 z) 0) refl
-  where
-    other : (y : ℤ) → eqb (ofZ w32 y) 0 ≡ false → isNotZero y ≡ true
-    other (pos zero) e = absurd (true≢false e)
-    other (pos (suc n)) e = ap not (and-no (leb 0 (suc n)) (lt-leb (suc n) 0 (omega arith)))
-      where
-        and-no : (t : Bool) {b : Bool} → b ≡ false → (t && b) ≡ false
-        and-no true e = e
-        and-no false e = refl
-    other (negsuc n) e = refl
+-- the first pointer, by the code's test on its bits
+pub zero-read : (z : ℤ) → mag z < 2 ^ hbits w32 → ofZ w32 z ≡ 0 → z ≡ pos 0
+zero-read z h e = sym (read w32 z h) ∙ ap (toZ w32) e
 
-    go : (t : Bool) → eqb (ofZ w32 z) 0 ≡ t → not (eqb (ofZ w32 z) 0) ≡ isNotZero z
-    go true e =
-        let zero : z ≡ pos 0 = sym (read w32 z h) ∙ ap (toZ w32) (eqb-true (ofZ w32 z) 0 e) in
-        ap not e ∙ sym (ap isNotZero zero)
-    go false e = ap not e ∙ sym (other z e)
+pub first-right : (a : Pattern) → at (a .pointers) 0 ≡ pos 0 → badFirst a ≡ false
+unfolding badFirst
+first-right a e = rw e
+
+pub first-off : (a : Pattern) → (ofZ w32 (at (a .pointers) 0) ≡ 0 → ⊥) → badFirst a ≡ true
+unfolding badFirst
+first-off a h = other (at (a .pointers) 0) h
+  where
+    and-no : (t : Bool) {b : Bool} → b ≡ false → (t && b) ≡ false
+    and-no true e = e
+    and-no false e = refl
+
+    other : (y : ℤ) → (ofZ w32 y ≡ 0 → ⊥) → not (leZ (pos 0) y && leZ y (pos 0)) ≡ true
+    other (pos zero) e = absurd (e refl)
+    other (pos (suc n)) e = ap not (and-no (leb 0 (suc n)) (lt-leb (suc n) 0 (omega arith)))
+    other (negsuc n) e = refl
 
 module _ (a : Pattern) where
   pub fault-length : badLength a ≡ true → true ≡ badPointers baseLimits a

@@ -1,5 +1,4 @@
 -- Laws that the proofs of the checks share. None belongs to a function.
-pub mod Choices
 pub mod Orders
 pub mod Sizes
 pub mod Pending

@@ -8,8 +8,7 @@ use lib.IntN.{ℤ, pos, negsuc, natAbs}
 use lib.Signed.{ltZ, nonNeg}
 use borrow.Author.Tests.{ltb-false}
 use Rattle.definition.specs.Limits.{Limits, outside, roomWithin}
-use Rattle.plain.proofs.Logic.{or-false-left}
-use Rattle.checks.proofs.Choices.{or-first, or-rest, or-false-right}
+use Rattle.plain.proofs.Logic.{or-false-left, or-first, or-rest, or-false-right}
 use Rattle.checks.proofs.Orders.{not-below-zero}
 
 pub outside-low : (most : ℕ) (x : ℤ) → ltZ x (pos 0) ≡ true → ltZ x (pos 0) ≡ outside most x

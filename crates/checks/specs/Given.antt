@@ -1,7 +1,7 @@
--- The pattern and the problem that a check is given, as the definition has them, and the tests of one number.
+-- The pattern and the problem that a check is given, as the definition has them, and the test of one row.
 -- Assumes nothing.
 use Prim.Native.Nat.{ℕ}
-use mathlib.Core.Bool.{Bool, not, _&&_, _||_}
+use mathlib.Core.Bool.{Bool, _&&_, _||_}
 use mathlib.Core.List.{List, [], _∷_}
 use lib.Dec.{ltb}
 use lib.Ieee.{Float}
@@ -24,10 +24,6 @@ problemGiven pattern multiplier aggressive permutation inverse lists scratch = r
   listsSize = lists;
   scratchSize = scratch;
 }
-
--- a first pointer is not 0
-abbrev pub isNotZero : ℤ → Bool
-isNotZero p = not (leZ (pos 0) p && leZ p (pos 0))
 
 -- a row of a pattern of n columns: not below 0, and below n
 abbrev pub isRow : ℤ → ℤ → Bool

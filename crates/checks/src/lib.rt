@@ -10,10 +10,10 @@ ghost use lib.ListN.{length, getD, take};
 ghost use lib.Seq.{slice};
 ghost use Rattle.plain.specs.Lists.{every, rises};
 ghost use Rattle.definition.specs.Limits.{baseLimits, outside, listsRoom, scratchRoom, roomWithin};
-ghost use Rattle.definition.specs.Pattern.{columns, jumbled, climbs, badFirst, badPointers, badRows};
+ghost use Rattle.definition.specs.Pattern.{columns, jumbled, climbs, badPointers, badRows};
 ghost use Rattle.definition.specs.Answers.{answerOf, firstOf};
 ghost use Rattle.numbers.specs.Meaning.{answerMeant};
-ghost use Rattle.checks.specs.Given.{patternGiven, problemGiven, isRow, isNotZero, patternChecks};
+ghost use Rattle.checks.specs.Given.{patternGiven, problemGiven, isRow, patternChecks};
 use numbers::Answer;
 use numbers::Settings;
 
@@ -123,14 +123,6 @@ fn climbing(pointers: &[i32]) -> bool
     true
 }
 
-// Whether the first pointer is not 0.
-fn first_wrong(pointers: &[i32]) -> bool
-    requires { ⌜ 0 < length (now pointers) ⌝ }
-    ensures { λ r. ⌜ r ≡ isNotZero (getD (now (pointers .entry)) 0 (pos 0)) ⌝ }
-{
-    pointers[0] != 0
-}
-
 // Answer 5: the pointers' length, the first, their order, or the last one.
 pub fn pointers_wrong(n: usize, pointers: &[i32], rows: &[i32]) -> bool
     requires { ⌜ n ≤ baseLimits .mostColumns ⌝ }
@@ -139,7 +131,7 @@ pub fn pointers_wrong(n: usize, pointers: &[i32], rows: &[i32]) -> bool
     if pointers.len() != n + 1 {
         return true;
     }
-    if first_wrong(pointers) {
+    if pointers[0] != 0 {
         return true;
     }
     if !climbing(pointers) {

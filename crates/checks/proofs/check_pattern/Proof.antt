@@ -1,7 +1,6 @@
 -- `checks::check_pattern` meets its contract, line by line of the table.
 -- Assumes nothing.
 use Prim.Native.Nat.{ℕ}
-use native.Mathlib.Nat.{le-refl}
 use native.Mathlib.Omega.{arith}
 use mathlib.Core.Path.{_≡_, sym, ap, _∙_}
 use mathlib.Core.Bool.{Bool, true, false, _||_}
@@ -24,8 +23,10 @@ A c = patternGiven (pos (c .args .n)) (c .args .pointers .now) (c .args .rows .n
 past-pointers : (c : tie.Else1) → badPointers baseLimits (A (c .before .before)) ≡ false
 past-pointers c = sym (c .before .pointers-wrong .ensures) ∙ c .if1 .left
 
-right : (c : tie.Else1) → Pointers (A (c .before .before))
-right c = accepted-pointers (A (c .before .before)) (past-pointers c)
+right : (c : tie.Else1) → Pointers (c .before .before .args .n) (c .before .before .args .pointers .now) (c .before .before .args .rows .now)
+right c =
+    let a = c .before .before .args in
+    accepted-pointers (a .n) (a .pointers .now) (a .rows .now) (past-pointers c)
 
 past-rows : (c : tie.Else2) → badRows (A (c .before .before .before .before)) ≡ false
 past-rows c = sym (c .before .rows-wrong .ensures) ∙ c .if2 .left
@@ -52,7 +53,7 @@ returns-2 : tie.Need-returns-2
 returns-2 c = line-rows (A (c .before .before .before .before)) (c .before .before .before .before .args .lists) (c .before .before .before .before .args .scratch) (past-pointers (c .before .before)) (sym (c .before .rows-wrong .ensures) ∙ c .if2 .taken)
 
 number-at-requires : tie.Need-number-at-requires
-number-at-requires c κs = (omega (arith, right (c .before .before) .size), right (c .before .before) .sign (c .before .before .before .before .args .n) (le-refl (c .before .before .before .before .args .n)))
+number-at-requires c κs = (omega (arith, right (c .before .before) .size), right (c .before .before) .sign (c .before .before .before .before .args .n))
 
 room-wrong-requires : tie.Need-room-wrong-requires
 room-wrong-requires c κs = (c .before .before .before .before .before .pre, omega (arith, c .number-at .ensures, right (c .before .before .before) .most))

@@ -39,7 +39,7 @@ returns-2 : tie.Need-returns-2 Inv-loop μ-loop
 returns-2 c =
     let s = c .before .before .before in
     let a = s .before .before .before .args in
-    sym (s .loop .inv .1 ∙ rises-stop (a .rows .now) (a .to) (s .loop .last) (s .loop .i) (c .before .number-at2 .result) (omega arith) (omega arith) (c .before .number-at2 .ensures) (c .if2 .taken))
+    sym (s .loop .inv .1 ∙ rises-stop (a .rows .now) (a .to) (s .loop .last) (s .loop .i) (c .before .number-at2 .result) (omega arith) (omega arith) (c .before .number-at2 .ensures) (omega arith))
 
 add-i-2 : tie.Need-add-i-2 Inv-loop μ-loop
 add-i-2 c = omega arith
@@ -51,7 +51,7 @@ loop-again : tie.Need-loop-again Inv-loop μ-loop
 loop-again c =
     let s = c .before .before .before in
     let a = s .before .before .before .args in
-    (omega arith, s .loop .inv .1 ∙ rises-on (a .rows .now) (a .to) (s .loop .last) (s .loop .i) (c .before .number-at2 .result) (omega arith) (omega arith) (c .before .number-at2 .ensures) (c .if2 .left))
+    (omega arith, s .loop .inv .1 ∙ rises-on (a .rows .now) (a .to) (s .loop .last) (s .loop .i) (c .before .number-at2 .result) (omega arith) (omega arith) (c .before .number-at2 .ensures) (omega arith))
 
 returns-3 : tie.Need-returns-3 Inv-loop μ-loop
 returns-3 c =

@@ -9,7 +9,7 @@ use borrow.Author.Tests.{not-true, not-false}
 use Rattle.plain.specs.Lists.{rises}
 use Rattle.definition.specs.Pattern.{Pattern, column, columns, jumbled}
 use Rattle.checks.specs.Given.{patternGiven}
-use Rattle.checks.proofs.Accepted.{Pointers, Rows, accepted-pointers, accepted-rows}
+use Rattle.checks.proofs.Accepted.{Pointers, accepted-pointers, row-sign}
 use Rattle.checks.proofs.Pending.{columnsOn, columns-stop, columns-on, columns-end}
 use Rattle.checks.proofs.Table.{jumbled-first, column-is}
 use Rattle.checks.proofs.is_jumbled.Statement.{statement}
@@ -22,34 +22,33 @@ Inv-loop n pointers rows k₀ k =
 abbrev μ-loop : tie.MeasureT-loop
 μ-loop n pointers rows k₀ k = n - k
 
--- the pattern, what its pointers and its rows are
+-- the pattern, and what its pointers are
 abbrev A : tie.Start Inv-loop μ-loop → Pattern
 A c = patternGiven (pos (c .args .n)) (c .args .pointers .now) (c .args .rows .now)
 
-right : (c : tie.Start Inv-loop μ-loop) → Pointers (A c)
-right c = accepted-pointers (A c) (c .pre .0)
-
-rows-right : (c : tie.Start Inv-loop μ-loop) → Rows (A c)
-rows-right c = accepted-rows (A c) (right c .within) (c .pre .1)
+right : (c : tie.Start Inv-loop μ-loop) → Pointers (c .args .n) (c .args .pointers .now) (c .args .rows .now)
+right c = accepted-pointers (c .args .n) (c .args .pointers .now) (c .args .rows .now) (c .pre .0)
 
 loop-holds : tie.Need-loop-holds Inv-loop μ-loop
 loop-holds c = (omega arith, jumbled-first (A c))
 
 number-at-requires : tie.Need-number-at-requires Inv-loop μ-loop
-number-at-requires c κs = (omega (arith, right (c .before .before) .size), right (c .before .before) .sign (c .before .loop .k) (omega arith))
+number-at-requires c κs = (omega (arith, right (c .before .before) .size), right (c .before .before) .sign (c .before .loop .k))
 
 add-number-at : tie.Need-add-number-at Inv-loop μ-loop
 add-number-at c = omega arith
 
 number-at-requires-2 : tie.Need-number-at-requires-2 Inv-loop μ-loop
-number-at-requires-2 c κs = (omega (arith, right (c .before .before .before) .size), right (c .before .before .before) .sign (c .before .before .loop .k + 1) (omega arith))
+number-at-requires-2 c κs = (omega (arith, right (c .before .before .before) .size), right (c .before .before .before) .sign (c .before .before .loop .k + 1))
 
 -- the end of a column is within the first nnz rows
 column-rises-requires : tie.Need-column-rises-requires Inv-loop μ-loop
 column-rises-requires c κs =
     let s = c .before .before .before .before in
-    let low = right s .grow (c .before .before .before .loop .k + 1) (s .args .n) (omega arith) (omega arith) in
-    (omega (arith, low, right s .within, c .number-at2 .ensures), λ k l. rows-right s .sign k (omega (arith, low, c .number-at2 .ensures)))
+    let low = right s .ends (c .before .before .before .loop .k + 1) (omega arith) in (
+      omega (arith, low, right s .within, c .number-at2 .ensures),
+      λ k l. row-sign (s .args .n) (s .args .pointers .now) (s .args .rows .now) (s .pre .0) (s .pre .1) k (omega (arith, low, c .number-at2 .ensures)),
+    )
 
 -- the test of a turn
 told : (c : tie.After-column-rises Inv-loop μ-loop) → c .column-rises .result ≡ rises (column (A (c .before .before .before .before .before)) (c .before .before .before .before .loop .k))

@@ -9,8 +9,7 @@ use mir.Syntax.{w64}
 use mir.Val.{toZ, ofZ}
 use borrow.Author.Needs.{needs}
 use Rattle.definition.specs.Limits.{baseLimits, outside, listsRoom}
-use Rattle.plain.proofs.Logic.{or-false-left}
-use Rattle.checks.proofs.Choices.{or-false-right}
+use Rattle.plain.proofs.Logic.{or-false-left, or-false-right}
 use Rattle.checks.proofs.Orders.{read, to-number}
 use Rattle.checks.proofs.Sizes.{inside-sign, inside-size, room-outside, room-inside}
 use Rattle.checks.proofs.lists_room.Statement.{statement}

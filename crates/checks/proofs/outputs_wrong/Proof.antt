@@ -4,7 +4,7 @@ use mathlib.Core.Path.{ap}
 use mathlib.Core.Bool.{not}
 use lib.Dec.{eqb}
 use borrow.Author.Tests.{eq-eqb, ne-eqb}
-use Rattle.checks.proofs.Choices.{and-first, and-rest}
+use Rattle.plain.proofs.Logic.{and-first, and-rest}
 use Rattle.checks.proofs.outputs_wrong.Statement.{statement}
 use Rattle.checks.proofs.outputs_wrong.Tie as tie
 

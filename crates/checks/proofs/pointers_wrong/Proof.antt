@@ -1,20 +1,19 @@
 -- `checks::pointers_wrong` meets its contract, fault by fault.
 -- Assumes nothing.
-use Prim.Native.Nat.{ℕ, _+_}
 use native.Mathlib.Omega.{arith}
-use mathlib.Core.Path.{_≡_, refl, sym, ap, _∙_}
-use mathlib.Core.Bool.{Bool, true, false, not}
+use mathlib.Core.Path.{_≡_, sym, ap, _∙_}
+use mathlib.Core.Bool.{true, false, not}
 use lib.Dec.{ltb}
-use lib.IntN.{pos, natAbs}
+use lib.IntN.{pos}
 use lib.ListN.{length}
 use borrow.Author.Needs.{needs}
 use borrow.Author.Tests.{not-true, not-false, lt-ltb, le-ltb}
+use Rattle.plain.proofs.Logic.{or-first, or-rest}
 use Rattle.definition.specs.Limits.{baseLimits}
-use Rattle.definition.specs.Pattern.{Pattern, climbs, nnz, badLength, badFirst, badOrder, badTotal, badPointers}
-use Rattle.checks.specs.Given.{patternGiven, isNotZero}
+use Rattle.definition.specs.Pattern.{Pattern, climbs, nnz, badLength, badOrder, badTotal, badPointers}
+use Rattle.checks.specs.Given.{patternGiven}
 use Rattle.checks.proofs.Accepted.{sign-at}
-use Rattle.checks.proofs.Choices.{or-first, or-rest}
-use Rattle.checks.proofs.Faults.{length-off, length-right, fault-length, fault-first, fault-order, fault-total}
+use Rattle.checks.proofs.Faults.{length-off, length-right, zero-read, first-off, first-right, fault-length, fault-first, fault-order, fault-total}
 use Rattle.checks.proofs.Pending.{at}
 use Rattle.checks.proofs.pointers_wrong.Statement.{statement}
 use Rattle.checks.proofs.pointers_wrong.Tie as tie
@@ -27,9 +26,8 @@ A c = patternGiven (pos (c .args .n)) (c .args .pointers .now) (c .args .rows .n
 past-length : (c : tie.Else1) → badLength (A (c .before)) ≡ false
 past-length c = length-right (A (c .before)) (c .if1 .left)
 
-past-first : (c : tie.Else2) → badFirst (A (c .before .before .before)) ≡ false
-unfolding badFirst
-past-first c = sym (c .before .first-wrong .ensures) ∙ c .if2 .left
+past-first : (c : tie.Else2) → at (c .before .before .before .args .pointers .now) 0 ≡ pos 0
+past-first c = zero-read (at (c .before .before .before .args .pointers .now) 0) (c .before .if22 .given) (c .if2 .left)
 
 past-order : (c : tie.Else3) → climbs (c .before .before .before .before .before .args .pointers .now) ≡ true
 past-order c = sym (c .before .climbing .ensures) ∙ not-false (c .before .climbing .result) (c .if3 .left)
@@ -41,28 +39,28 @@ add-if1 c = search needs
 returns : tie.Need-returns
 returns c = fault-length (A (c .before)) (length-off (A (c .before)) (c .if1 .taken))
 
-first-wrong-requires : tie.Need-first-wrong-requires
-first-wrong-requires c κs = search needs
+shared-slice-copy-out-if2 : tie.Need-shared-slice-copy-out-if2
+shared-slice-copy-out-if2 c = search needs
 
 returns-2 : tie.Need-returns-2
-unfolding badFirst
-returns-2 c = fault-first (A (c .before .before .before)) (past-length (c .before .before)) (sym (c .before .first-wrong .ensures) ∙ c .if2 .taken)
+returns-2 c = fault-first (A (c .before .before .before)) (past-length (c .before .before)) (first-off (A (c .before .before .before)) (c .if2 .taken))
 
 climbing-requires : tie.Need-climbing-requires
 climbing-requires c κs = search needs
 
 returns-3 : tie.Need-returns-3
 unfolding badOrder
-returns-3 c = fault-order (A (c .before .before .before .before .before)) (past-length (c .before .before .before .before)) (past-first (c .before .before)) (ap not (sym (c .before .climbing .ensures) ∙ not-true (c .before .climbing .result) (c .if3 .taken)))
+returns-3 c =
+    fault-order (A (c .before .before .before .before .before)) (past-length (c .before .before .before .before)) (first-right (A (c .before .before .before .before .before)) (past-first (c .before .before)))
+    (ap not (sym (c .before .climbing .ensures) ∙ not-true (c .before .climbing .result) (c .if3 .taken)))
 
 number-at-requires : tie.Need-number-at-requires
-unfolding badFirst
-number-at-requires c κs = (omega arith, sign-at (c .before .before .before .before .before .args .pointers .now) (past-first (c .before .before)) (past-order c) (c .before .before .before .before .before .args .n) (omega arith))
+number-at-requires c κs = (omega arith, sign-at (c .before .before .before .before .before .args .pointers .now) (past-first (c .before .before)) (past-order c) (c .before .before .before .before .before .args .n))
 
--- the last two tests, at nnz as it was read
+-- the last two tests decide
 total-is : (c : tie.After-number-at) → badTotal baseLimits (A (c .before .before .before .before .before .before)) ≡ badPointers baseLimits (A (c .before .before .before .before .before .before))
 unfolding badOrder
-total-is c = fault-total (A (c .before .before .before .before .before .before)) (past-length (c .before .before .before .before .before)) (past-first (c .before .before .before)) (ap not (past-order (c .before)))
+total-is c = fault-total (A (c .before .before .before .before .before .before)) (past-length (c .before .before .before .before .before)) (first-right (A (c .before .before .before .before .before .before)) (past-first (c .before .before .before))) (ap not (past-order (c .before)))
 
 returns-4 : tie.Need-returns-4
 unfolding badTotal baseLimits
@@ -86,7 +84,7 @@ pointers-wrong-spec =
     (tie.spec
     add-if1
     returns
-    first-wrong-requires
+    shared-slice-copy-out-if2
     returns-2
     climbing-requires
     returns-3

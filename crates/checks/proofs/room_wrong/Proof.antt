@@ -6,8 +6,8 @@ use mathlib.Core.Bool.{true, false}
 use lib.Dec.{ltb}
 use borrow.Author.Needs.{needs}
 use borrow.Author.Tests.{lt-ltb, le-ltb}
+use Rattle.plain.proofs.Logic.{or-first, or-rest}
 use Rattle.definition.specs.Limits.{listsRoom, scratchRoom}
-use Rattle.checks.proofs.Choices.{or-first, or-rest}
 use Rattle.checks.proofs.room_wrong.Statement.{statement}
 use Rattle.checks.proofs.room_wrong.Tie as tie
 

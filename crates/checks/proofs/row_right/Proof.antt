@@ -8,8 +8,8 @@ use lib.IntN.{ℤ, pos, negsuc, natAbs}
 use lib.Signed.{leZ, ltZ, nonNeg}
 use mir.Syntax.{w32}
 use mir.Val.{toZ, ofZ}
+use Rattle.plain.proofs.Logic.{and-first, and-rest}
 use Rattle.checks.specs.Given.{isRow}
-use Rattle.checks.proofs.Choices.{and-first, and-rest}
 use Rattle.checks.proofs.Orders.{read, to-number}
 use Rattle.checks.proofs.row_right.Statement.{statement}
 use Rattle.checks.proofs.row_right.Tie as tie

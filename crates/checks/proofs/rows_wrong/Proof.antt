@@ -1,28 +1,24 @@
 -- `checks::rows_wrong` meets its contract.
 -- Assumes nothing.
 use Prim.Native.Nat.{ℕ}
-use native.Mathlib.Nat.{le-refl}
 use native.Mathlib.Omega.{arith}
 use mathlib.Core.Path.{_≡_, ap, _∙_}
 use mathlib.Core.Bool.{not}
 use lib.IntN.{pos}
 use lib.ListN.{take}
 use Rattle.plain.specs.Lists.{every}
-use Rattle.definition.specs.Pattern.{Pattern, badRows}
-use Rattle.checks.specs.Given.{patternGiven, isRow}
+use Rattle.definition.specs.Pattern.{badRows}
+use Rattle.checks.specs.Given.{isRow}
 use Rattle.checks.proofs.Accepted.{Pointers, accepted-pointers}
 use Rattle.checks.proofs.rows_wrong.Statement.{statement}
 use Rattle.checks.proofs.rows_wrong.Tie as tie
 
--- the pattern, and what its pointers are
-abbrev A : tie.Start → Pattern
-A c = patternGiven (pos (c .args .n)) (c .args .pointers .now) (c .args .rows .now)
-
-right : (c : tie.Start) → Pointers (A c)
-right c = accepted-pointers (A c) (c .pre)
+-- what its pointers are
+right : (c : tie.Start) → Pointers (c .args .n) (c .args .pointers .now) (c .args .rows .now)
+right c = accepted-pointers (c .args .n) (c .args .pointers .now) (c .args .rows .now) (c .pre)
 
 number-at-requires : tie.Need-number-at-requires
-number-at-requires c κs = (omega (arith, right c .size), right c .sign (c .args .n) (le-refl (c .args .n)))
+number-at-requires c κs = (omega (arith, right c .size), right c .sign (c .args .n))
 
 rows-right-requires : tie.Need-rows-right-requires
 rows-right-requires c κs = omega (arith, c .number-at .ensures, right (c .before) .within)

@@ -3,8 +3,8 @@
 use mathlib.Core.Path.{_≡_, sym, ap, _∙_}
 use mir.Syntax.{w64}
 use borrow.Author.Needs.{needs}
+use Rattle.plain.proofs.Logic.{or-first, or-rest}
 use Rattle.definition.specs.Limits.{baseLimits, outside}
-use Rattle.checks.proofs.Choices.{or-first, or-rest}
 use Rattle.checks.proofs.Orders.{read}
 use Rattle.checks.proofs.sizes_wrong.Statement.{statement}
 use Rattle.checks.proofs.sizes_wrong.Tie as tie
