@@ -1,20 +1,19 @@
 -- What the loops over a pattern need of pointers and rows that are not refused: each that is read is a number, and each column ends within the first nnz rows.
 -- The pattern's laws are those of `facts`; here they are at n as a number, whatever the limit of n is.
 -- Assumes nothing.
-use Prim.Native.Nat.{ℕ, suc, _+_, _≤_, _<_}
-use native.Mathlib.Nat.{lt-irrefl, le-refl}
+use Prim.Native.Nat.{ℕ, _+_, _≤_, _<_}
+use native.Mathlib.Nat.{le-refl}
 use native.Mathlib.Numerals.{add-one}
 use native.Mathlib.Omega.{arith}
-use mathlib.Core.Path.{_≡_, refl, sym, ap, _∙_}
-use mathlib.Core.Bool.{true, false, _||_}
+use mathlib.Core.Path.{_≡_, sym, ap, _∙_}
+use mathlib.Core.Bool.{true, false}
 use mathlib.Core.List.{List}
-use lib.Dec.{ltb}
 use lib.IntN.{ℤ, pos, natAbs}
 use lib.Signed.{nonNeg}
 use lib.ListN.{length}
-use borrow.Author.Tests.{le-ltb, not-false}
+use borrow.Author.Tests.{le-ltb}
 use Rattle.definition.specs.Limits.{Limits, baseLimits, outside}
-use Rattle.definition.specs.Pattern.{Pattern, columnCount, pointer, nnz, climbs, badCount, badFirst, badTotal, badPointers, badRows}
+use Rattle.definition.specs.Pattern.{Pattern, climbs, badCount, badTotal, badPointers, badRows}
 use Rattle.facts.proofs.Columns.{step-is, pointer-count, entries-most, rows-enough, pointer-is, pointer-most, row-is}
 use Rattle.checks.specs.Given.{patternGiven}
 use Rattle.checks.proofs.Pending.{at}

@@ -1,7 +1,7 @@
 -- What a test or a cast of signed numbers says, where they were read from their bits.
 -- Assumes nothing.
-use mathlib.Core.Path.{_≡_, refl, sym, ap, subst, _∙_}
-use mathlib.Core.Bool.{Bool, true, false, not, true≢false}
+use mathlib.Core.Path.{_≡_, refl, sym, ap, _∙_}
+use mathlib.Core.Bool.{true, false, not, true≢false}
 use Prim.Native.Nat.{ℕ, _<_, _^_}
 use native.Mathlib.Decide.{decLe}
 use native.Mathlib.Nat as Nat
@@ -24,9 +24,6 @@ lt-read w x y hx hy = ap (λ (z : ℤ). ltZ z (toZ w (ofZ w y))) (read w x hx) �
 -- on one, and a literal
 pub lt-lit : (w : Width) (x y : ℤ) → mag x < 2 ^ hbits w → ltZ (toZ w (ofZ w x)) y ≡ ltZ x y
 lt-lit w x y hx = ap (λ (z : ℤ). ltZ z y) (read w x hx)
-
-pub lit-lt : (w : Width) (x y : ℤ) → mag x < 2 ^ hbits w → ltZ y (toZ w (ofZ w x)) ≡ ltZ y x
-lit-lt w x y hx = ap (ltZ y) (read w x hx)
 
 leb-not : (a b : ℕ) → leb a b ≡ not (ltb b a)
 leb-not a b = elim (decLe a b) [ yes h ↦ le-leb a b h ∙ sym (ap not (le-ltb b a h)) | no n ↦ lt-leb a b (Nat.lt-of-not-le n) ∙ sym (ap not (lt-ltb b a (Nat.lt-of-not-le n))) ]

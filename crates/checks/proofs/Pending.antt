@@ -4,13 +4,13 @@ use Prim.Native.Nat.{ℕ, zero, suc, _+_, _-_, _≤_, _<_}
 use native.Mathlib.Omega.{arith}
 use native.Mathlib.Nat.{sub-self, sub-zero}
 use native.Mathlib.Numerals.{add-one}
-use mathlib.Core.Path.{_≡_, refl, sym, ap, _∙_}
+use mathlib.Core.Path.{_≡_, refl, ap, _∙_}
 use mathlib.Core.Bool.{Bool, true, false, not, _&&_}
 use mathlib.Core.List.{List, [], _∷_, map}
-use lib.Dec.{ltb, leb}
+use lib.Dec.{ltb}
 use lib.IntN.{ℤ, pos, natAbs}
 use lib.Signed.{leZ, ltZ}
-use lib.ListN.{length, getD, take, drop}
+use lib.ListN.{length, getD, take, drop, drop-of-length-le}
 use lib.Seq.{slice, slice-cons, slice-empty, drop-cons, drop-nil}
 use borrow.Author.Tests.{lt-ltb, le-ltb}
 use Rattle.plain.specs.Lists.{every, rises, risesFrom, countUp}
@@ -48,12 +48,7 @@ climbs-on ps i h e = climbs-next ps i h ∙ ap (λ (b : Bool). b && climbsOn ps 
 
 pub climbs-end : (ps : List ℤ) (i : ℕ) → length ps ≤ i → climbsOn ps i ≡ true
 unfolding climbsOn climbsFrom
-climbs-end ps i h = rw (past ps i h)
-  where
-    past : (xs : List ℤ) (j : ℕ) → length xs ≤ j → drop j xs ≡ []
-    past [] j h = drop-nil j
-    past (x ∷ xs) (suc j) h = past xs j (omega arith)
-    past (x ∷ xs) zero h = absurd (omega arith)
+climbs-end ps i h = rw (drop-of-length-le ps {i = i} h)
 
 -- ---- the first rows: each passes a test
 

@@ -1,38 +1,38 @@
 -- Which line of the table decides, and what the tests of sizes are of a problem.
 -- Assumes nothing.
-use Prim.Native.Nat.{ℕ, suc, _+_}
+use Prim.Native.Nat.{ℕ, _+_}
 use native.Mathlib.Numerals.{add-one}
-use mathlib.Core.Path.{_≡_, refl, sym, ap, _∙_}
+use mathlib.Core.Path.{_≡_, refl, ap}
 use mathlib.Core.Bool.{Bool, true, false, not, _&&_, _||_}
-use mathlib.Core.List.{List, map}
+use mathlib.Core.List.{map}
 use lib.Dec.{eqb, ltb}
 use lib.IntN.{ℤ, natAbs}
 use lib.Seq.{slice}
-use Rattle.plain.specs.Lists.{isNone, every, rises}
+use Rattle.plain.specs.Lists.{isNone, rises}
 use Rattle.definition.specs.Limits.{baseLimits, outside, listsRoom, scratchRoom}
 use Rattle.definition.specs.Threshold.{ruleOf}
 use Rattle.definition.specs.Pattern.{Pattern, columnCount, nnz, pointer, column, columns, jumbled, badCount, badPointers, badRows}
 use Rattle.definition.specs.Answers.{Answer, ordered, orderedJumbled, wrongCount, wrongMultiplier, wrongOutputs, wrongPointers, wrongRows, wrongRoom, Problem, badMultiplier, badOutputs, badRoom, checks, firstOf, answerWithin, answerOf}
-use Rattle.checks.specs.Given.{patternChecks}
-use Rattle.checks.proofs.Pending.{at, columnsOn, columns-first}
+use Rattle.checks.specs.Given.{patternGiven, patternChecks}
+use Rattle.checks.proofs.Pending.{columnsOn, columns-first}
 
 -- ---- the tests of numbers, as the definition has them of a problem
 
-pub count-is : (a : Pattern) → badCount baseLimits a ≡ outside (baseLimits .mostColumns) (a .n)
+pub bad-count-is : (a : Pattern) → badCount baseLimits a ≡ outside (baseLimits .mostColumns) (a .n)
 unfolding badCount
-count-is a = refl
+bad-count-is a = refl
 
-pub multiplier-is : (p : Problem) → badMultiplier p ≡ isNone (ruleOf (p .multiplier))
+pub bad-multiplier-is : (p : Problem) → badMultiplier p ≡ isNone (ruleOf (p .multiplier))
 unfolding badMultiplier
-multiplier-is p = refl
+bad-multiplier-is p = refl
 
-pub outputs-is : (p : Problem) → badOutputs p ≡ not (eqb (p .permutationSize) (columnCount (p .pattern)) && eqb (p .inverseSize) (columnCount (p .pattern)))
+pub bad-outputs-is : (p : Problem) → badOutputs p ≡ not (eqb (p .permutationSize) (columnCount (p .pattern)) && eqb (p .inverseSize) (columnCount (p .pattern)))
 unfolding badOutputs
-outputs-is p = refl
+bad-outputs-is p = refl
 
-pub room-is : (p : Problem) → badRoom p ≡ ltb (p .listsSize) (listsRoom (columnCount (p .pattern)) (nnz (p .pattern))) || ltb (p .scratchSize) (scratchRoom (columnCount (p .pattern)) (nnz (p .pattern)))
+pub bad-room-is : (p : Problem) → badRoom p ≡ ltb (p .listsSize) (listsRoom (columnCount (p .pattern)) (nnz (p .pattern))) || ltb (p .scratchSize) (scratchRoom (columnCount (p .pattern)) (nnz (p .pattern)))
 unfolding badRoom
-room-is p = refl
+bad-room-is p = refl
 
 -- ---- the columns
 
@@ -52,6 +52,10 @@ module _ (a : Pattern) (lists scratch : ℕ) where
   -- the room is too small
   abbrev pub short : Bool
   short = ltb lists (listsRoom (columnCount a) (nnz a)) || ltb scratch (scratchRoom (columnCount a) (nnz a))
+
+  -- by the code's test, at nnz as it was read
+  pub short-is : (k : ℕ) (r : Bool) → k ≡ nnz a → r ≡ ltb lists (listsRoom (columnCount a) k) || ltb scratch (scratchRoom (columnCount a) k) → r ≡ short
+  short-is k r e f = rw (← e) f
 
   pub line-pointers : badPointers baseLimits a ≡ true → wrongPointers ≡ firstOf (patternChecks a lists scratch)
   unfolding patternChecks firstOf
@@ -88,7 +92,9 @@ module _ (p : Problem) where
   unfolding answerOf answerWithin checks firstOf
   line-outputs e f g = rw (e, f, g)
 
-  pub line-pattern : badCount baseLimits (p .pattern) ≡ false → badMultiplier p ≡ false → badOutputs p ≡ false
-      → firstOf (patternChecks (p .pattern) (p .listsSize) (p .scratchSize)) ≡ answerOf p
+  -- the rest of the table, at n as a number
+  pub line-pattern : (n : ℤ) (r : Answer) → n ≡ p .pattern .n
+      → r ≡ firstOf (patternChecks (patternGiven n (p .pattern .pointers) (p .pattern .rows)) (p .listsSize) (p .scratchSize))
+      → badCount baseLimits (p .pattern) ≡ false → badMultiplier p ≡ false → badOutputs p ≡ false → r ≡ answerOf p
   unfolding answerOf answerWithin checks firstOf patternChecks badRoom
-  line-pattern e f g = rw (e, f, g)
+  line-pattern n r en er e f g = rw (e, f, g) (rw en at er)

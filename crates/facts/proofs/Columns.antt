@@ -25,7 +25,7 @@ use Rattle.definition.specs.Pattern.{Pattern, columnCount, pointer, nnz, column
 
 -- ---- signed numbers that pass a test
 
-count-in : (most : ℕ) (z : ℤ) → outside most z ≡ false → (z ≡ pos (natAbs z)) × (natAbs z ≤ most)
+pub count-in : (most : ℕ) (z : ℤ) → outside most z ≡ false → (z ≡ pos (natAbs z)) × (natAbs z ≤ most)
 unfolding outside
 count-in most (pos k) h = (refl, ltb-false most k (or-false-right (ltb k 0) (ltb most k) h))
 count-in most (negsuc k) h = absurd (false≢true (sym h))

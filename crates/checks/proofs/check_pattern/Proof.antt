@@ -1,17 +1,15 @@
 -- `checks::check_pattern` meets its contract, line by line of the table.
 -- Assumes nothing.
-use Prim.Native.Nat.{ℕ}
 use native.Mathlib.Omega.{arith}
-use mathlib.Core.Path.{_≡_, sym, ap, _∙_}
-use mathlib.Core.Bool.{Bool, true, false, _||_}
-use lib.Dec.{ltb}
+use mathlib.Core.Path.{_≡_, sym, _∙_}
+use mathlib.Core.Bool.{false}
 use lib.IntN.{pos}
 use borrow.Author.Needs.{needs}
-use Rattle.definition.specs.Limits.{baseLimits, listsRoom, scratchRoom}
-use Rattle.definition.specs.Pattern.{Pattern, columns, jumbled, badPointers, badRows}
+use Rattle.definition.specs.Limits.{baseLimits}
+use Rattle.definition.specs.Pattern.{Pattern, badPointers, badRows}
 use Rattle.checks.specs.Given.{patternGiven}
 use Rattle.checks.proofs.Accepted.{Pointers, accepted-pointers}
-use Rattle.checks.proofs.Table.{short, line-pointers, line-rows, line-room, line-jumbled, line-ordered}
+use Rattle.checks.proofs.Table.{short, short-is, line-pointers, line-rows, line-room, line-jumbled, line-ordered}
 use Rattle.checks.proofs.check_pattern.Statement.{statement}
 use Rattle.checks.proofs.check_pattern.Tie as tie
 
@@ -34,8 +32,8 @@ past-rows c = sym (c .before .rows-wrong .ensures) ∙ c .if2 .left
 -- the test of the room, at nnz as it was read
 room-told : (c : tie.After-room-wrong) → c .room-wrong .result ≡ short (A (c .before .before .before .before .before .before)) (c .before .before .before .before .before .before .args .lists) (c .before .before .before .before .before .before .args .scratch)
 room-told c =
-    let a = c .before .before .before .before .before .before .args in
-    c .room-wrong .ensures ∙ ap (λ (k : ℕ). ltb (a .lists) (listsRoom (a .n) k) || ltb (a .scratch) (scratchRoom (a .n) k)) (c .before .number-at .ensures)
+    let s = c .before .before .before .before .before .before in
+    short-is (A s) (s .args .lists) (s .args .scratch) (c .before .number-at .result) (c .room-wrong .result) (c .before .number-at .ensures) (c .room-wrong .ensures)
 
 past-room : (c : tie.Else3) → short (A (c .before .before .before .before .before .before .before)) (c .before .before .before .before .before .before .before .args .lists) (c .before .before .before .before .before .before .before .args .scratch) ≡ false
 past-room c = sym (room-told (c .before)) ∙ c .if3 .left

@@ -1,12 +1,11 @@
 -- `checks::column_rises` meets its contract. The invariant: what the definition says of the whole column is what it says of the rows from i on, behind `last`.
 -- Assumes nothing.
-use Prim.Native.Nat.{ℕ, _≤_, _<_, _-_, _+_}
+use Prim.Native.Nat.{_≤_, _-_}
 use native.Mathlib.Omega.{arith}
 use mathlib.Core.Path.{_≡_, sym, _∙_}
 use mathlib.Core.List.{map}
 use lib.IntN.{natAbs}
 use lib.Seq.{slice}
-use borrow.Author.Needs.{needs}
 use Rattle.plain.specs.Lists.{rises}
 use Rattle.checks.proofs.Pending.{risesOn, rises-none, rises-first, rises-stop, rises-on, rises-end}
 use Rattle.checks.proofs.column_rises.Statement.{statement}

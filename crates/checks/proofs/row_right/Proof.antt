@@ -2,14 +2,13 @@
 -- Assumes nothing.
 use Prim.Native.Nat.{ℕ}
 use mathlib.Core.Path.{_≡_, refl, sym, ap, _∙_}
-use mathlib.Core.Bool.{true, false, _&&_, false≢true}
+use mathlib.Core.Bool.{true, false≢true}
 use lib.Dec.{ltb}
 use lib.IntN.{ℤ, pos, negsuc, natAbs}
 use lib.Signed.{leZ, ltZ, nonNeg}
 use mir.Syntax.{w32}
 use mir.Val.{toZ, ofZ}
 use Rattle.plain.proofs.Logic.{and-first, and-rest}
-use Rattle.checks.specs.Given.{isRow}
 use Rattle.checks.proofs.Orders.{read, to-number}
 use Rattle.checks.proofs.row_right.Statement.{statement}
 use Rattle.checks.proofs.row_right.Tie as tie

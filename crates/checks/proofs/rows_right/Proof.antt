@@ -1,12 +1,10 @@
 -- `checks::rows_right` meets its contract. The invariant: what the definition says of the first nnz rows is what it says of those from i on.
 -- Assumes nothing.
-use Prim.Native.Nat.{ℕ, _≤_, _<_, _-_, _+_}
+use Prim.Native.Nat.{_≤_, _-_}
 use native.Mathlib.Omega.{arith}
 use mathlib.Core.Path.{_≡_, sym, ap, _∙_}
-use mathlib.Core.Bool.{true, false}
-use mathlib.Core.List.{List}
-use lib.IntN.{ℤ, pos}
-use lib.ListN.{length, take}
+use lib.IntN.{pos}
+use lib.ListN.{take}
 use mir.Syntax.{w32}
 use borrow.Author.Tests.{not-true, not-false}
 use Rattle.plain.specs.Lists.{every}
