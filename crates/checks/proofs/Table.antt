@@ -7,13 +7,15 @@ use mathlib.Core.Bool.{Bool, true, false, not, _&&_, _||_}
 use mathlib.Core.List.{map}
 use lib.Dec.{eqb, ltb}
 use lib.IntN.{ℤ, natAbs}
+use lib.ListN.{length}
 use lib.Seq.{slice}
 use Rattle.plain.specs.Lists.{isNone, rises}
 use Rattle.definition.specs.Limits.{baseLimits, outside, listsRoom, scratchRoom}
 use Rattle.definition.specs.Threshold.{ruleOf}
 use Rattle.definition.specs.Pattern.{Pattern, columnCount, nnz, pointer, column, columns, jumbled, badCount, badPointers, badRows}
 use Rattle.definition.specs.Answers.{Answer, ordered, orderedJumbled, wrongCount, wrongMultiplier, wrongOutputs, wrongPointers, wrongRows, wrongRoom, Problem, badMultiplier, badOutputs, badRoom, checks, firstOf, answerWithin, answerOf}
-use Rattle.checks.specs.Given.{patternGiven, patternChecks}
+use Rattle.definition.specs.Promise.{Lent, problemOf}
+use Rattle.checks.specs.Given.{patternGiven, problemGiven, patternChecks}
 use Rattle.checks.proofs.Pending.{columnsOn, columns-first}
 
 -- ---- the tests of numbers, as the definition has them of a problem
@@ -33,6 +35,12 @@ bad-outputs-is p = refl
 pub bad-room-is : (p : Problem) → badRoom p ≡ ltb (p .listsSize) (listsRoom (columnCount (p .pattern)) (nnz (p .pattern))) || ltb (p .scratchSize) (scratchRoom (columnCount (p .pattern)) (nnz (p .pattern)))
 unfolding badRoom
 bad-room-is p = refl
+
+-- the problem that is lent, as `check` is given it
+pub lent-is : (l : Lent) → problemOf l
+    ≡ problemGiven (patternGiven (l .n) (l .pointers) (l .rows)) (l .multiplier) (l .aggressive) (length (l .permutation)) (length (l .inverse)) (length (l .lists)) (length (l .scratch))
+unfolding problemOf
+lent-is l = refl
 
 -- ---- the columns
 
