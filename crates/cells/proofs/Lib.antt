@@ -1,0 +1,6 @@
+-- The modules of `cells` that belong to no one function.
+pub mod Slices
+pub mod Fields
+pub mod Parents
+pub mod Laws
+pub mod Example
