@@ -17,35 +17,35 @@ use Rattle.cells.proofs.Slices.{split, same?, at-wr-same, at-wr-other, 
 
 -- ---- where a field's cells are
 
-place-hot : (n f i : ℕ) → f < 8 → place n f i ≡ 8 * i + f
+pub place-hot : (n f i : ℕ) → f < 8 → place n f i ≡ 8 * i + f
 unfolding place
 place-hot n f i h = rw (lt-ltb f 8 h)
 
-place-table : (n f i : ℕ) → 8 ≤ f → f < 16 → place n f i ≡ f * n + i
+pub place-table : (n f i : ℕ) → 8 ≤ f → f < 16 → place n f i ≡ f * n + i
 unfolding place
 place-table n f i h k = rw (le-ltb f 8 h, lt-ltb f 16 k)
 
-place-entry : (n i : ℕ) → place n 16 i ≡ 16 * n + 16 + i
+pub place-entry : (n i : ℕ) → place n 16 i ≡ 16 * n + 16 + i
 unfolding place
 place-entry n i = refl
 
-within-node : (n f i : ℕ) → f < 15 → i < n → within n f i ≡ true
+pub within-node : (n f i : ℕ) → f < 15 → i < n → within n f i ≡ true
 unfolding within
 within-node n f i h k = rw (lt-ltb f 15 h) (lt-ltb i n k)
 
-within-not : (n f i : ℕ) → f < 15 → n ≤ i → within n f i ≡ false
+pub within-not : (n f i : ℕ) → f < 15 → n ≤ i → within n f i ≡ false
 unfolding within
 within-not n f i h k = rw (lt-ltb f 15 h) (le-ltb i n k)
 
-within-column : (n i : ℕ) → i ≤ n → within n 15 i ≡ true
+pub within-column : (n i : ℕ) → i ≤ n → within n 15 i ≡ true
 unfolding within
 within-column n i h = le-leb i n h
 
-within-columns-not : (n i : ℕ) → n < i → within n 15 i ≡ false
+pub within-columns-not : (n i : ℕ) → n < i → within n 15 i ≡ false
 unfolding within
 within-columns-not n i h = lt-leb i n h
 
-within-entry : (n i : ℕ) → within n 16 i ≡ true
+pub within-entry : (n i : ℕ) → within n 16 i ≡ true
 unfolding within
 within-entry n i = refl
 
@@ -89,7 +89,7 @@ spot n f i w = spot-by n f i w (split f 15)
 
 -- ---- two of them
 
-table-end : (n f i : ℕ) → f < 16 → i < n → f * n + i < 16 * n
+pub table-end : (n f i : ℕ) → f < 16 → i < n → f * n + i < 16 * n
 table-end n f i hf hi =
     let m : suc f * n ≤ 16 * n = mul-le-mul-right n hf in
     omega arith
