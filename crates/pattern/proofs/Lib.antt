@@ -1,0 +1,3 @@
+-- The modules of `pattern` that belong to no one function.
+pub mod Steps
+pub mod Reaching

@@ -1,0 +1,3 @@
+-- The definitions that the contracts of `pattern` cite.
+pub mod Reach
+pub mod Model
