@@ -1,3 +1,5 @@
 -- The modules of `pattern` that belong to no one function.
 pub mod Steps
 pub mod Reaching
+pub mod Cursor
+pub mod Traversal
