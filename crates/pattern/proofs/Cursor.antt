@@ -61,7 +61,7 @@ module _ (n : ℕ) (start len : ℕ → ℕ) (size : ℕ) (small : (i : ℕ) →
   lists f a v hv (inl e) =
       let c = h .cursor (fits-before f) i hi in
       let before : entries F′ (start i) (length (X i)) ≡ entries F (start i) (length (X i)) =
-        entries-same F F′ (start i) (start i) (length (X i)) (λ t ht. others (start i + t) (λ q. omega (arith, q, c))) in
+      entries-same F F′ (start i) (start i) (length (X i)) (λ t ht. others (start i + t) (λ q. omega (arith, q, c))) in
       rw (e, grown, upd-same X i (X i ++ (x ∷ [])), entries-snoc F′ (start i) (length (X i)), before, h .held (fits-before f) a i hi, ← c)
       (ap (λ (y : ℕ). X i ++ (y ∷ [])) (stored (omega (arith, c, room-left f, a .inside i hi))))
   lists f a v hv (inr e) =
