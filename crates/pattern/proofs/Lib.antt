@@ -3,3 +3,5 @@ pub mod Steps
 pub mod Reaching
 pub mod Cursor
 pub mod Traversal
+pub mod Writing
+pub mod Building

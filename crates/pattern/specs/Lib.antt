@@ -3,3 +3,4 @@ pub mod Reach
 pub mod Model
 pub mod Cursors
 pub mod Columned
+pub mod Lists
