@@ -5,3 +5,4 @@ pub mod Cursor
 pub mod Traversal
 pub mod Writing
 pub mod Building
+pub mod Visiting
