@@ -6,3 +6,4 @@ pub mod Traversal
 pub mod Writing
 pub mod Building
 pub mod Visiting
+pub mod Transposing
