@@ -7,3 +7,6 @@ pub mod Writing
 pub mod Building
 pub mod Visiting
 pub mod Transposing
+pub mod Copying
+pub mod Source
+pub mod Taking
