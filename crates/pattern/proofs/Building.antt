@@ -159,7 +159,7 @@ module _ (n : ℕ) (len : ℕ → ℕ) (s : List ℤ) (room : Room n s) (fits : 
 
 module _ (n : ℕ) (cols : List (List ℕ)) (l s : List ℤ) (stands : Columned n s cols) (size-is : length cols ≡ n)
     (within : (k i : ℕ) → member i (getD cols k []) ≡ true → i < n) (room : Room n s)
-    (fits : total length (neighbours cols) ≤ length l) (short : length l < 2 ^ 63) where
+    (fits : total length (neighbours cols) ≤ length l) (short : total length (neighbours cols) < 2 ^ 63) where
   abbrev ps : List Pair
   ps = allPairs cols
 
@@ -178,7 +178,7 @@ module _ (n : ℕ) (cols : List (List ℕ)) (l s : List ℤ) (stands : Columned 
   total-is = total-map length (λ u. written u ps) (upTo (length cols)) ∙ ap (λ (k : ℕ). total len (upTo k)) size-is
 
   small : (i : ℕ) → i < n → before len i + len i < 2 ^ 63
-  small i h = omega (arith, before-apart len i n h, total-is, fits, short)
+  small i h = omega (arith, before-apart len i n h, total-is, short)
 
   small-first : (i : ℕ) → i < n → 0 + len i < 2 ^ 63
   small-first i h = omega (arith, small i h)
@@ -218,7 +218,7 @@ module _ (n : ℕ) (cols : List (List ℕ)) (l s : List ℤ) (stands : Columned 
   -- then each list has its place
   laid : Placed n len (h₁ .mem) n (placed n h₁)
   unfolding placed
-  laid = placed-all n len (h₁ .mem) (first .room) (omega (arith, total-is, fits, short)) (λ i h. first .out .fill .cursor whole i h ∙ omega arith)
+  laid = placed-all n len (h₁ .mem) (first .room) (omega (arith, total-is, short)) (λ i h. first .out .fill .cursor whole i h ∙ omega arith)
 
   abbrev s₂ : List ℤ
   s₂ = placed n h₁ .mem

@@ -88,7 +88,7 @@ module _ (p : Problem) (ok : Accepted p) (s : List ℤ) (fits : nnz (p .pattern)
   -- ---- the lists
 
   module _ (l : List ℤ) (b : Bool) (e : b ≡ jumbled (columns (p .pattern)))
-      (room : 2 * nnz (p .pattern) + columnCount (p .pattern) ≤ length l) (short : length l < 2 ^ 63) where
+      (room : 2 * nnz (p .pattern) + columnCount (p .pattern) ≤ length l) where
     abbrev t : List ℤ
     t = tidied n (a .pointers) (a .rows) b s
 
@@ -97,6 +97,10 @@ module _ (p : Problem) (ok : Accepted p) (s : List ℤ) (fits : nnz (p .pattern)
 
     enough : total length (graphOf a) ≤ length l
     enough = omega (arith, graph-entries p ok, room)
+
+    short : total length (graphOf a) < 2 ^ 63
+    unfolding baseLimits
+    short = omega (arith, graph-entries p ok, few-entries p ok)
 
     -- what `take_pattern` leaves
     pub taken-rep : Packed (columnCount (p .pattern)) (graphOf (p .pattern)) (built (columnCount (p .pattern)) l (tidied (columnCount (p .pattern)) (p .pattern .pointers) (p .pattern .rows) b s) .lists) (built (columnCount (p .pattern)) l (tidied (columnCount (p .pattern)) (p .pattern .pointers) (p .pattern .rows) b s) .mem)
