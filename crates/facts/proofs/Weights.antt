@@ -66,7 +66,7 @@ module _ {n : ℕ} (keyOf : ℕ → ℕ) (aggressive : Bool) (g : Graph) (p : �
   others = keep (λ v. not (hasWeight g2 v)) new
 
   -- what is compared is no mass, and what is not is mass
-  compared-mass : (v : ℕ) → member v compared ≡ true → isMass aggressive g p v ≡ false
+  pub compared-mass : (v : ℕ) → member v compared ≡ true → isMass aggressive g p v ≡ false
   compared-mass v m = either (isMass aggressive g p v ≡ false) (isMass aggressive g p v)
       (λ e.
       let z : weight g2 v ≡ 0 = weight2 aggressive g p q pv v (kept-was v (hasWeight g2) new m) ∙ ap (λ (b : Bool). cond b 0 (weight g v)) e in
@@ -97,14 +97,14 @@ module _ {n : ℕ} (keyOf : ℕ → ℕ) (aggressive : Bool) (g : Graph) (p : �
   entries : (v : ℕ) → member v new ≡ true → isMass aggressive g p v ≡ false → entriesOf g2 v ≡ rotate (keptE aggressive g p v) ++ rotate (keptV g p v)
   entries v m e = rw (elements2 aggressive g p q pv v m e, variables2 aggressive g p q pv v m e)
 
-  entry : (x v : ℕ) → member v new ≡ true → isMass aggressive g p v ≡ false → member x (entriesOf g2 v) ≡ member x (keptE aggressive g p v ++ keptV g p v)
+  pub entry : (x v : ℕ) → member v new ≡ true → isMass aggressive g p v ≡ false → member x (entriesOf g2 v) ≡ member x (keptE aggressive g p v ++ keptV g p v)
   entry x v m e =
       ap (member x) (entries v m e) ∙ member-append x (rotate (keptE aggressive g p v)) (rotate (keptV g p v))
       ∙ ap (λ (b : Bool). b || member x (rotate (keptV g p v))) (member-rotate x (keptE aggressive g p v))
       ∙ ap (λ (b : Bool). member x (keptE aggressive g p v) || b) (member-rotate x (keptV g p v))
       ∙ sym (member-append x (keptE aggressive g p v) (keptV g p v))
 
-  distinct-entries : (v : ℕ) → member v new ≡ true → isMass aggressive g p v ≡ false → Distinct (entriesOf g2 v)
+  pub distinct-entries : (v : ℕ) → member v new ≡ true → isMass aggressive g p v ≡ false → Distinct (entriesOf g2 v)
   distinct-entries v m e =
       let vv = collected-var q p pv v m in
       rw (entries v m e)

@@ -13,3 +13,5 @@ pub mod Permutations
 pub mod Entries
 pub mod Turns
 pub mod Falling
+pub mod Classes
+pub mod Products

@@ -131,6 +131,17 @@ not-kept x p xs h = rw (member-keep x p xs, h) (at-false (p x))
 pub not-kept-at : (x : ℕ) (p : ℕ → Bool) (xs : List ℕ) → p x ≡ false → member x (keep p xs) ≡ false
 not-kept-at x p xs h = rw (member-keep x p xs, h)
 
+-- tests that agree on the list
+pub keep-same : (p q : ℕ → Bool) (xs : List ℕ) → ((x : ℕ) → In x xs → p x ≡ q x) → keep p xs ≡ keep q xs
+unfolding keep
+keep-same p q [] h = refl
+keep-same p q (x ∷ xs) h = rw (h x (member-here x xs), keep-same p q xs (λ y m. h y (member-there y x xs m)))
+
+pub keep-every : (p : ℕ → Bool) (xs : List ℕ) → ((x : ℕ) → In x xs → p x ≡ true) → keep p xs ≡ xs
+unfolding keep
+keep-every p [] h = refl
+keep-every p (x ∷ xs) h = rw (h x (member-here x xs), keep-every p xs (λ y m. h y (member-there y x xs m)))
+
 pub member-delete : (x y : ℕ) (ys : List ℕ) → x ≢ y → member y ys ≡ true → member y (delete x ys) ≡ true
 unfolding delete
 member-delete x y ys n h = member-kept y (λ z. not (eqb x z)) ys (rw (ne-eqb x y n)) h
@@ -142,6 +153,26 @@ delete-was x y ys h = kept-was y (λ z. not (eqb x z)) ys h
 pub delete-apart : (x y : ℕ) (ys : List ℕ) → member y (delete x ys) ≡ true → x ≢ y
 unfolding delete
 delete-apart x y ys h = eqb-false x y (not-back (eqb x y) (kept-passes y (λ z. not (eqb x z)) ys h))
+
+pub delete-nil : (x : ℕ) → delete x [] ≡ []
+unfolding delete keep
+delete-nil x = refl
+
+pub delete-here : (x y : ℕ) (ys : List ℕ) → y ≡ x → delete x (y ∷ ys) ≡ delete x ys
+unfolding delete keep
+delete-here x y ys e = rw (eq-eqb x y (sym e))
+
+pub delete-there : (x y : ℕ) (ys : List ℕ) → y ≢ x → delete x (y ∷ ys) ≡ y ∷ delete x ys
+unfolding delete keep
+delete-there x y ys n = rw (ne-eqb x y (λ e. n (sym e)))
+
+pub delete-fresh : (x : ℕ) (ys : List ℕ) → member x ys ≡ false → delete x ys ≡ ys
+unfolding delete
+delete-fresh x ys h = keep-every (λ z. not (eqb x z)) ys (λ z m. rw (ne-eqb x z (apart x z ys h m)))
+
+pub delete-gone : (x : ℕ) (ys : List ℕ) → member x (delete x ys) ≡ false
+unfolding delete
+delete-gone x ys = not-kept-at x (λ z. not (eqb x z)) ys (rw (eq-eqb x x refl))
 
 -- ---- in another order
 

@@ -3,7 +3,8 @@
 use mathlib.Core.List.{flatMap}
 use Rattle.plain.specs.Lists
 use Rattle.plain.specs.Turns
+use Rattle.plain.specs.Classes
 
 unfoldable pub opened : Unit {0}
-unfolding flatMap Lists.countUp Lists.keep Lists.leading Lists.trailing Lists.every Lists.total Lists.rotate Lists.isEmpty Lists.member Lists.sameMembers Lists.delete Lists.position Lists.risesFrom Lists.rises Lists.fallTo Turns.entries Turns.times Turns.upd Turns.firsts
+unfolding flatMap Lists.countUp Lists.keep Lists.leading Lists.trailing Lists.every Lists.total Lists.rotate Lists.isEmpty Lists.member Lists.sameMembers Lists.delete Lists.position Lists.risesFrom Lists.rises Lists.fallTo Turns.entries Turns.times Turns.upd Turns.firsts Classes.firstLike Classes.takeOne Classes.takeAll
 opened = tt
