@@ -1,29 +1,28 @@
 -- The lists of A+A' from the columns in the scratch, whatever the list space held before: counted, placed, written.
 -- Assumes nothing.
-use Prim.Native.Nat.{ℕ, zero, suc, _+_, _≤_, _<_, _^_}
+use Prim.Native.Nat.{ℕ, suc, _+_, _≤_, _<_, _^_}
 use native.Mathlib.Omega.{arith}
-use mathlib.Core.Path.{_≡_, refl, sym, ap, _∙_, fun-ext}
+use mathlib.Core.Path.{_≡_, refl, sym, ap, _∙_}
 use mathlib.Core.Logic.{_≢_, _⊎_, inl, inr}
-use mathlib.Core.Bool.{true, false}
-use mathlib.Core.List.{List, [], _∷_, map}
+use mathlib.Core.Bool.{true}
+use mathlib.Core.List.{List, []}
 use lib.IntN.{ℤ}
 use lib.ListN.{length, getD}
 use borrow.Author.Tests.{lt-ltb}
 use Rattle.plain.specs.Lists.{member, upTo, total}
-use Rattle.plain.specs.Turns.{entries, times}
 use Rattle.plain.proofs.Positions.{getD-counted}
 use Rattle.plain.proofs.Sums.{total-map, total-members}
 use Rattle.plain.proofs.Members.{upTo-below}
 use Rattle.plain.proofs.Turns.{times-keeps}
 use Rattle.definition.specs.Neighbours.{Pair, allPairs, written, neighbours}
-use Rattle.cells.specs.View.{at, rd, up, Room, plus}
+use Rattle.cells.specs.View.{at, rd, up, Room}
 use Rattle.cells.proofs.Slices.{same?, plus-sum}
 use Rattle.cells.proofs.Fields.{room-up, length-up}
 use Rattle.cells.proofs.Laws.{mem, room-yes}
-use Rattle.pattern.specs.Cursors.{Fits, Apart, Filled}
-use Rattle.pattern.specs.Columned.{Columned, Stands}
+use Rattle.pattern.specs.Cursors.{Fits}
+use Rattle.pattern.specs.Columned.{Columned}
 use Rattle.pattern.specs.Lists.{Packed}
-use Rattle.pattern.specs.Model.{Heap, heap, Spot, spot, scanned, emptied, emptiedAll, placedList, placedLists, counted, placed, built, builtFree}
+use Rattle.pattern.specs.Model.{Heap, heap, Spot, spot, emptied, emptiedAll, placedList, placedLists, counted, placed, built, builtFree}
 use Rattle.pattern.proofs.Cursor.{filled-none, before, before-none, before-more, before-apart, apart-before}
 use Rattle.pattern.proofs.Traversal.{Met, all-met}
 use Rattle.pattern.proofs.Writing.{Out, out-pair, out-mark}

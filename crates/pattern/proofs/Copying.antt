@@ -2,19 +2,18 @@
 -- Assumes nothing.
 use Prim.Native.Nat.{ℕ, zero, suc, _+_, _-_, _≤_, _<_}
 use native.Mathlib.Omega.{arith}
-use mathlib.Core.Path.{_≡_, refl, sym, ap, _∙_}
+use mathlib.Core.Path.{_≡_, refl, _∙_}
 use mathlib.Core.Logic.{_≢_, _⊎_, inl, inr}
-use mathlib.Core.List.{List, []}
+use mathlib.Core.List.{List}
 use lib.IntN.{ℤ}
-use lib.ListN.{length, getD}
+use lib.ListN.{length}
 use borrow.Author.Tests.{lt-ltb, le-leb}
-use Rattle.plain.specs.Turns.{entries}
 use Rattle.plain.proofs.Entries.{entries-same}
 use Rattle.plain.proofs.Turns.{times-keeps}
 use Rattle.cells.specs.View.{at, rd, up, Room, spare}
 use Rattle.cells.proofs.Slices.{same?}
-use Rattle.cells.proofs.Fields.{room-up, length-up}
-use Rattle.cells.proofs.Laws.{mem, room-yes, spare-up}
+use Rattle.cells.proofs.Fields.{room-up}
+use Rattle.cells.proofs.Laws.{mem, room-yes}
 use Rattle.pattern.specs.Columned.{Stands, Columned}
 use Rattle.pattern.specs.Model.{copiedPointer, copiedPointers, copiedRow, copiedRows, copied}
 

@@ -5,18 +5,14 @@ use native.Mathlib.Omega.{arith}
 use mathlib.Core.Path.{_≡_, refl, sym, ap, _∙_}
 use mathlib.Core.Logic.{_≢_, _⊎_, inl, inr}
 use mathlib.Core.List.{List, [], _∷_, _++_}
-use lib.ListN.{length, length-append}
+use lib.ListN.{length}
 use Rattle.plain.specs.Lists.{upTo, countUp, total}
 use Rattle.plain.specs.Turns.{entries, upd}
 use Rattle.plain.proofs.Entries.{entries-same, entries-snoc, upd-same, upd-other}
+use Rattle.plain.proofs.Positions.{length-snoc}
 use Rattle.plain.proofs.Sums.{total-upTo}
 use Rattle.cells.proofs.Slices.{split, same?}
 use Rattle.pattern.specs.Cursors.{Fits, Apart, Filled}
-
--- ---- lengths
-
-pub length-snoc : {A : Type 0} (xs : List A) (x : A) → length (xs ++ (x ∷ [])) ≡ suc (length xs)
-length-snoc xs x = length-append xs (x ∷ []) ∙ omega arith
 
 -- ---- one entry more
 

@@ -1,12 +1,12 @@
 -- The columns of an accepted problem as the code reads them: from the slices of pointers and rows, where no number is below 0.
 -- Assumes nothing.
-use Prim.Native.Nat.{ℕ, suc, _+_, _-_, _≤_, _<_}
+use Prim.Native.Nat.{ℕ, suc, _+_, _-_, _<_}
 use native.Mathlib.Omega.{arith}
-use mathlib.Core.Path.{_≡_, refl, sym, ap, _∙_}
-use mathlib.Core.List.{List, [], map}
+use mathlib.Core.Path.{_≡_, sym, ap, _∙_}
+use mathlib.Core.List.{List}
 use lib.IntN.{ℤ, pos, natAbs}
-use lib.ListN.{length, getD, drop, take, List·getD-map}
-use lib.Seq.{slice, getD-take, getD-drop}
+use lib.ListN.{getD, drop, take, List·getD-map}
+use lib.Seq.{getD-take, getD-drop}
 use Rattle.plain.specs.Turns.{entries}
 use Rattle.plain.proofs.Entries.{entries-same, entries-whole}
 use Rattle.definition.specs.Limits.{baseLimits}

@@ -1,17 +1,16 @@
 -- The code against its models: one law for each way out of a function, its premises in the words of what was called.
 -- Assumes nothing.
-use Prim.Native.Nat.{ℕ, _+_, _-_, _<_, _≤_}
-use mathlib.Core.Path.{_≡_, refl, sym, ap, _∙_}
+use Prim.Native.Nat.{ℕ, _+_, _-_, _≤_}
+use mathlib.Core.Path.{_≡_, ap, _∙_}
 use mathlib.Core.Logic.{_≢_}
-use mathlib.Core.Bool.{Bool, true, false, cond}
+use mathlib.Core.Bool.{Bool, true, false}
 use mathlib.Core.List.{List}
-use lib.Dec.{eqb}
 use lib.IntN.{ℤ}
 use borrow.Author.Tests.{eq-eqb, ne-eqb}
 use Rattle.plain.specs.Turns.{times, Turned}
 use Rattle.plain.proofs.Turns.{finish}
 use Rattle.cells.specs.View.{at, wr, rd, up, plus}
-use Rattle.pattern.specs.Reach.{reach, past}
+use Rattle.pattern.specs.Reach.{reach}
 use Rattle.pattern.specs.Model.{copiedPointer, copiedPointers, copiedRow, copiedRows, copied, cleared, clearedAll, rowed, visited, visitedColumn, visitedNext, visitedAll, Spot, spot, placedRow, placedRows, closedRows, transposed, tidied, Heap, heap, added, paired, pairedAt, pairedPart, stopOf, nextOf, marked, passed, met, metPart, metColumn, metColumns, metRest, metRests, scanned, emptied, emptiedAll, placedList, placedLists, counted, placed, built, builtFree}
 
 -- ---- copying

@@ -3,7 +3,7 @@
 -- Assumes nothing.
 use Prim.Native.Nat.{ℕ, _+_, _*_, _≤_, _<_, _^_}
 use native.Mathlib.Omega.{arith}
-use mathlib.Core.Path.{_≡_, refl, sym, ap, _∙_}
+use mathlib.Core.Path.{_≡_, sym, _∙_}
 use mathlib.Core.Bool.{Bool, true, false}
 use mathlib.Core.List.{List, []}
 use lib.IntN.{ℤ}
@@ -16,17 +16,17 @@ use Rattle.definition.specs.Cleaned as D
 use Rattle.definition.specs.Cleaned.{cleaned}
 use Rattle.definition.specs.Ordering.{graphOf}
 use Rattle.facts.specs.Accepted.{Accepted}
-use Rattle.facts.proofs.Accepted.{checked, length-columns, cleaned-inside, length-cleaned-columns, cleaned-entries, few-columns, few-entries, graph-entries, graph-room, scratch-room}
+use Rattle.facts.proofs.Accepted.{checked, length-columns, cleaned-inside, length-cleaned-columns, cleaned-entries, few-entries, graph-entries}
 use Rattle.facts.proofs.Columns as C
 use Rattle.facts.proofs.Cleaning.{cleaned-same, cleaned-jumbled}
-use Rattle.cells.specs.View.{at, rd, Room, spare}
+use Rattle.cells.specs.View.{at, Room, spare}
 use Rattle.pattern.specs.Columned.{Columned}
 use Rattle.pattern.specs.Lists.{Packed}
 use Rattle.pattern.specs.Model.{copied, transposed, tidied, built, builtFree}
 use Rattle.pattern.proofs.Source.{pointer-at, source-stands}
 use Rattle.pattern.proofs.Copying.{copied-rep, copied-wide, copied-room}
 use Rattle.pattern.proofs.Transposing.{transposed-rep, transposed-wide, transposed-room}
-use Rattle.pattern.proofs.Building.{built-rep, built-long, built-wide, built-room}
+use Rattle.pattern.proofs.Building.{built-rep, built-long, built-wide}
 
 room-of : (n c : ℕ) (s : List ℤ) → c + 16 * n + 16 ≤ length s → Room n s
 room-of n c s h = record { room = omega arith }

@@ -1,26 +1,25 @@
 -- A jumbled pattern in the scratch: its transpose without repeats, whatever the scratch held before.
 -- Assumes nothing.
-use Prim.Native.Nat.{ℕ, zero, suc, _+_, _-_, _≤_, _<_, _^_}
+use Prim.Native.Nat.{ℕ, suc, _+_, _-_, _≤_, _<_, _^_}
 use native.Mathlib.Omega.{arith}
 use mathlib.Core.Path.{_≡_, refl, sym, ap, _∙_}
 use mathlib.Core.Logic.{_≢_, _⊎_, inl, inr}
-use mathlib.Core.Bool.{true, false}
-use mathlib.Core.List.{List, [], _∷_}
+use mathlib.Core.Bool.{true}
+use mathlib.Core.List.{List, []}
 use lib.IntN.{ℤ}
 use lib.ListN.{length, getD}
 use borrow.Author.Tests.{lt-ltb, le-leb}
 use Rattle.plain.specs.Lists.{member, upTo, total}
-use Rattle.plain.specs.Turns.{entries, times}
 use Rattle.plain.proofs.Positions.{getD-counted}
 use Rattle.plain.proofs.Sums.{total-map}
 use Rattle.plain.proofs.Turns.{times-keeps}
 use Rattle.definition.specs.Cleaned as D
 use Rattle.definition.specs.Cleaned.{columnsWith}
-use Rattle.cells.specs.View.{at, rd, up, Room, spare, plus}
+use Rattle.cells.specs.View.{at, rd, up, Room, spare}
 use Rattle.cells.proofs.Slices.{same?, plus-sum}
-use Rattle.cells.proofs.Fields.{room-up, length-up}
-use Rattle.cells.proofs.Laws.{mem, room-yes, spare-up}
-use Rattle.pattern.specs.Cursors.{Fits, Filled}
+use Rattle.cells.proofs.Fields.{room-up}
+use Rattle.cells.proofs.Laws.{mem, room-yes}
+use Rattle.pattern.specs.Cursors.{Fits}
 use Rattle.pattern.specs.Columned.{Stands, Columned}
 use Rattle.pattern.specs.Model.{Spot, spot, cleared, clearedAll, visitedAll, placedRow, placedRows, closedRows, transposed}
 use Rattle.pattern.proofs.Cursor.{before, before-none, before-more, before-apart, apart-before}

@@ -5,21 +5,19 @@ use Prim.Native.Nat.{ℕ, zero, suc, _+_, _-_, _≤_, _<_}
 use native.Mathlib.Omega.{arith}
 use mathlib.Core.Path.{_≡_, refl, sym, ap, _∙_, fun-ext, subst}
 use mathlib.Core.Logic.{_≢_, _⊎_, inl, inr}
-use mathlib.Core.Bool.{true, false}
+use mathlib.Core.Bool.{true}
 use mathlib.Core.List.{List, [], _∷_, _++_, map, foldl, flatMap, append-assoc, append-nil, map-append}
-use lib.IntN.{ℤ}
 use lib.ListN.{length, getD, set, replicate, length-set, length-replicate}
 use lib.Seq.{getD-set-same, getD-set-other}
 use borrow.Author.Tests.{lt-ltb}
 use Rattle.plain.specs.Lists.{member, upTo, countUp}
 use Rattle.plain.specs.Turns.{entries, times}
-use Rattle.plain.proofs.Logic.{or-elim}
 use Rattle.plain.proofs.Members.{no-member}
-use Rattle.plain.proofs.Entries.{entries-none, entries-snoc, entries-at, entries-length}
-use Rattle.plain.proofs.Positions.{member-getD, getD-same, set-has}
-use Rattle.plain.proofs.Folds.{flatMap-append}
+use Rattle.plain.proofs.Entries.{entries-snoc}
+use Rattle.plain.proofs.Positions.{member-entries, getD-same, set-has}
+use Rattle.plain.proofs.Folds.{flatMap-append, foldl-snoc}
 use Rattle.plain.proofs.Sums.{countUp-snoc}
-use Rattle.plain.proofs.Turns.{times-more, times-none, times-simulates, times-upTo}
+use Rattle.plain.proofs.Turns.{times-simulates, times-upTo}
 use Rattle.definition.specs.Neighbours.{Pair, Scan, pair, above, below, meet, meetColumn, scanned, leftOver, allPairs}
 use Rattle.facts.proofs.Scanned.{above-was}
 use Rattle.facts.proofs.Meeting.{below-was}
@@ -46,16 +44,8 @@ module _ (n i j : ℕ) (h : Heap) where
   unfolding paired added
   paired-room r = room-up n 12 _ _ _ (room-up n 12 _ _ _ r)
 
-member-entries : (F : ℕ → ℕ) (p c t : ℕ) → t < c → member (F (p + t)) (entries F p c) ≡ true
-member-entries F p c t l =
-    ap (λ (x : ℕ). member x (entries F p c)) (sym (entries-at F p c t 0 l)) ∙ member-getD (entries F p c) t (rw (entries-length F p c) l)
-
 snoc-map : (f : ℕ → Pair) (ps : List Pair) (xs : List ℕ) (x : ℕ) → ps ++ map f xs ++ (f x ∷ []) ≡ ps ++ map f (xs ++ (x ∷ []))
 snoc-map f ps xs x = append-assoc ps (map f xs) (f x ∷ []) ∙ ap (λ (l : List Pair). ps ++ l) (sym (map-append f xs (x ∷ [])))
-
-foldl-snoc : {A B : Type 0} (f : A → B → A) (m : A) (xs : List B) (x : B) → foldl f m (xs ++ (x ∷ [])) ≡ f (foldl f m xs) x
-foldl-snoc f m [] x = refl
-foldl-snoc f m (y ∷ xs) x = foldl-snoc f (f m y) xs x
 
 module _ (n : ℕ) (E F : ℕ → ℕ) (cols : List (List ℕ)) (stands : Stands n E F cols) (size-is : length cols ≡ n)
     (within : (k i : ℕ) → member i (getD cols k []) ≡ true → i < n) (O : List Pair → Heap → Type 0)

@@ -1,20 +1,20 @@
 -- A pass over the columns of a jumbled pattern: each column is written at the cursors of its rows, at each once. So after all columns each row's cursor stands
 -- behind the columns that have it, ascending, and where there is room they are the list.
 -- Assumes nothing.
-use Prim.Native.Nat.{ℕ, zero, suc, _+_, _-_, _≤_, _<_, _^_}
+use Prim.Native.Nat.{ℕ, suc, _+_, _-_, _≤_, _<_, _^_}
 use native.Mathlib.Omega.{arith}
 use mathlib.Core.Path.{_≡_, refl, sym, ap, _∙_, fun-ext}
 use mathlib.Core.Logic.{_≢_, _⊎_, inl, inr}
-use mathlib.Core.Bool.{Bool, true, false, cond, _||_}
+use mathlib.Core.Bool.{Bool, true, false}
 use mathlib.Core.List.{List, [], _∷_, _++_, foldl, append-assoc, append-nil}
 use lib.Dec.{eqb}
 use lib.IntN.{ℤ}
 use lib.ListN.{length, getD}
-use borrow.Author.Tests.{lt-ltb, eq-eqb, ne-eqb, eqb-true}
+use borrow.Author.Tests.{lt-ltb, eq-eqb, ne-eqb}
 use Rattle.plain.specs.Lists.{member, upTo, countUp, keep, consIf}
-use Rattle.plain.specs.Turns.{entries, times, upd}
-use Rattle.plain.proofs.Logic.{clash}
-use Rattle.plain.proofs.Members.{member-append, member-right, member-here, member-there, member-nil, not-cons}
+use Rattle.plain.specs.Turns.{times, upd}
+use Rattle.plain.proofs.Members.{member-here, member-there, member-nil, member-last, member-snoc}
+use Rattle.plain.proofs.Folds.{keep-append}
 use Rattle.plain.proofs.Entries.{upd-same, upd-other}
 use Rattle.plain.proofs.Sums.{countUp-snoc}
 use Rattle.plain.proofs.Turns.{times-keeps, times-fold}
@@ -22,7 +22,7 @@ use Rattle.definition.specs.Cleaned.{columnsWith}
 use Rattle.cells.specs.View.{at, rd, up, Room, spare, plus}
 use Rattle.cells.proofs.Slices.{same?, plus-sum}
 use Rattle.cells.proofs.Fields.{room-up}
-use Rattle.cells.proofs.Laws.{mem, room-yes, spare-up}
+use Rattle.cells.proofs.Laws.{mem, room-yes}
 use Rattle.pattern.specs.Cursors.{Filled}
 use Rattle.pattern.specs.Columned.{Stands}
 use Rattle.pattern.specs.Model.{rowed, visited, visitedColumn, visitedNext, visitedAll}
@@ -30,30 +30,11 @@ use Rattle.pattern.proofs.Cursor.{filled-more, filled-none}
 
 -- ---- lists
 
-keep-append : (p : ℕ → Bool) (xs ys : List ℕ) → keep p (xs ++ ys) ≡ keep p xs ++ keep p ys
-unfolding keep
-keep-append p [] ys = refl
-keep-append p (x ∷ xs) ys = go (p x) (keep-append p xs ys)
-  where
-    go : (b : Bool) → keep p (xs ++ ys) ≡ keep p xs ++ keep p ys → consIf b x (keep p (xs ++ ys)) ≡ consIf b x (keep p xs) ++ keep p ys
-    go true e = ap (λ (l : List ℕ). x ∷ l) e
-    go false e = e
-
 keep-next : (p : ℕ → Bool) (j : ℕ) → keep p (upTo (suc j)) ≡ keep p (upTo j) ++ consIf (p j) j []
 unfolding keep
 keep-next p j =
     let q : 0 + j ≡ j = omega arith in
     ap (keep p) (countUp-snoc 0 j) ∙ keep-append p (upTo j) ((0 + j) ∷ []) ∙ ap (λ (x : ℕ). keep p (upTo j) ++ consIf (p x) x []) q
-
-snoc-same : (i : ℕ) (xs : List ℕ) → member i (xs ++ (i ∷ [])) ≡ true
-snoc-same i xs = member-right i xs (i ∷ []) (member-here i [])
-
-snoc-other : (v i : ℕ) (xs : List ℕ) → v ≢ i → member v (xs ++ (i ∷ [])) ≡ member v xs
-snoc-other v i xs ne = member-append v xs (i ∷ []) ∙ ap (λ (b : Bool). member v xs || b) (not-cons v i [] ne (member-nil v)) ∙ or-false (member v xs)
-  where
-    or-false : (b : Bool) → b || false ≡ b
-    or-false true = refl
-    or-false false = refl
 
 module _ (cols : List (List ℕ)) where
   -- the columns before j that have row i, and j where it is among those seen
@@ -65,17 +46,17 @@ module _ (cols : List (List ℕ)) where
   seen-none i = refl
 
   seen-old-at : (j : ℕ) (done : List ℕ) (i v : ℕ) → member i done ≡ true → (v ≡ i) ⊎ (v ≢ i) → seen j done v ≡ seen j (done ++ (i ∷ [])) v
-  seen-old-at j done i v h (inl e) = rw (e, snoc-same i done, h)
-  seen-old-at j done i v h (inr e) = rw (snoc-other v i done e)
+  seen-old-at j done i v h (inl e) = rw (e, member-last i done, h)
+  seen-old-at j done i v h (inr e) = rw (member-snoc v i done e)
 
   seen-old : (j : ℕ) (done : List ℕ) (i : ℕ) → member i done ≡ true → seen j done ≡ seen j (done ++ (i ∷ []))
   seen-old j done i h = fun-ext (λ v. seen-old-at j done i v h (same? v i))
 
   seen-new-at : (j : ℕ) (done : List ℕ) (i v : ℕ) → member i done ≡ false → (v ≡ i) ⊎ (v ≢ i) → upd (seen j done) i (seen j done i ++ (j ∷ [])) v ≡ seen j (done ++ (i ∷ [])) v
   seen-new-at j done i v h (inl e) =
-      rw (e, upd-same (seen j done) i (seen j done i ++ (j ∷ [])), snoc-same i done, h)
+      rw (e, upd-same (seen j done) i (seen j done i ++ (j ∷ [])), member-last i done, h)
       (ap (λ (l : List ℕ). l ++ (j ∷ [])) (append-nil (keep (λ c. member i (getD cols c [])) (upTo j))))
-  seen-new-at j done i v h (inr e) = rw (upd-other (seen j done) i (seen j done i ++ (j ∷ [])) v e, snoc-other v i done e)
+  seen-new-at j done i v h (inr e) = rw (upd-other (seen j done) i (seen j done i ++ (j ∷ [])) v e, member-snoc v i done e)
 
   seen-new : (j : ℕ) (done : List ℕ) (i : ℕ) → member i done ≡ false → upd (seen j done) i (seen j done i ++ (j ∷ [])) ≡ seen j (done ++ (i ∷ []))
   seen-new j done i h = fun-ext (λ v. seen-new-at j done i v h (same? v i))
@@ -145,8 +126,8 @@ module _ (n : ℕ) (cols : List (List ℕ)) (ptr rows : List ℤ) (source : Stan
     unfolding rowed
     mark-at u l (inl e) =
         let q : j + 1 ≡ suc j = omega arith in
-        rw (e, snoc-same i done) (simp (mem, room-yes n s (v .room), lt-ltb i n hi) (eq-eqb (j + 1) (suc j) q))
-    mark-at u l (inr e) = rw (snoc-other u i done e) (simp mem (v .marks u l))
+        rw (e, member-last i done) (simp (mem, room-yes n s (v .room), lt-ltb i n hi) (eq-eqb (j + 1) (suc j) q))
+    mark-at u l (inr e) = rw (member-snoc u i done e) (simp mem (v .marks u l))
 
     low-at : (u : ℕ) → u < n → (u ≡ i) ⊎ (u ≢ i) → rd n 13 (rowed n j i s) u ≤ suc j
     unfolding rowed
@@ -176,8 +157,8 @@ module _ (n : ℕ) (cols : List (List ℕ)) (ptr rows : List ℤ) (source : Stan
     }
       where
         old-mark : (u : ℕ) → u < n → (u ≡ i) ⊎ (u ≢ i) → eqb (rd n 13 s u) (suc j) ≡ member u (done ++ (i ∷ []))
-        old-mark u l (inl e) = rw (e, snoc-same i done) (v .marks i hi ∙ h)
-        old-mark u l (inr e) = rw (snoc-other u i done e) (v .marks u l)
+        old-mark u l (inl e) = rw (e, member-last i done) (v .marks i hi ∙ h)
+        old-mark u l (inr e) = rw (member-snoc u i done e) (v .marks u l)
 
     visit-by : (b : Bool) → member i done ≡ b → Visiting j (done ++ (i ∷ [])) (visited n j i s)
     unfolding visited
