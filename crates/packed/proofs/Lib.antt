@@ -9,3 +9,5 @@ pub mod Spaces
 pub mod Waiting
 pub mod Packing
 pub mod Collection
+pub mod Trays
+pub mod Gathers

@@ -1,3 +1,5 @@
 -- The definitions that the contracts of `packed` cite.
 pub mod Places
 pub mod Model
+pub mod Tray
+pub mod Gather
