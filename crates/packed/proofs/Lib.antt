@@ -11,3 +11,6 @@ pub mod Packing
 pub mod Collection
 pub mod Trays
 pub mod Gathers
+pub mod Taking
+pub mod Picked
+pub mod Readings
