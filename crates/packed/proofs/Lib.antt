@@ -14,3 +14,5 @@ pub mod Gathers
 pub mod Taking
 pub mod Picked
 pub mod Readings
+pub mod Newcomer
+pub mod Dropping

@@ -19,7 +19,7 @@ use Rattle.cells.specs.Layout.{LEN, ORD, PE}
 use Rattle.cells.specs.View.{Room, at, rd, up, wr}
 use Rattle.packed.specs.Places.{Mem, Space, places}
 use Rattle.packed.proofs.Frame.{ends, other-field}
-use Rattle.packed.proofs.Objects.{Off, rewritten, stored}
+use Rattle.packed.proofs.Objects.{Off, renamed, rewritten, stored}
 use Rattle.packed.proofs.Orders.{sorted-by, sorted-fewer}
 
 -- lists by rising number and place, and no table yet
@@ -93,3 +93,7 @@ module _ (n : ℕ) (X : ℕ → List ℕ) (l s : List ℤ) (cnt base lim : ℕ) 
     -- j is dead
     pub space-dropped : j < n → Space n (upd X j []) l (up n LEN s j 0) cnt base lim
     space-dropped hj = space-rewritten hj l 0 [] (omega arith) refl (λ q a. refl) (entries-none (at l) (rd n PE s j))
+
+  -- the same lists by another name
+  pub space-renamed : (Y : ℕ → List ℕ) → ((i : ℕ) → X i ≡ Y i) → Space n Y l s cnt base lim
+  space-renamed Y e = record { lists = renamed l (places n s) lim X (h .lists) Y e; room = h .room; sorted = h .sorted }
