@@ -16,3 +16,5 @@ pub mod Picked
 pub mod Readings
 pub mod Newcomer
 pub mod Dropping
+pub mod Settling
+pub mod Outside

@@ -18,7 +18,7 @@ use Rattle.cells.proofs.Slices.{same?}
 use Rattle.cells.specs.Layout.{LEN, ORD, PE}
 use Rattle.cells.specs.View.{Room, at, rd, up, wr}
 use Rattle.packed.specs.Places.{Mem, Space, places}
-use Rattle.packed.proofs.Frame.{ends, other-field}
+use Rattle.packed.proofs.Frame.{ends, mem-by, other-field}
 use Rattle.packed.proofs.Objects.{Off, renamed, rewritten, stored}
 use Rattle.packed.proofs.Orders.{sorted-by, sorted-fewer}
 
@@ -97,3 +97,14 @@ module _ (n : ℕ) (X : ℕ → List ℕ) (l s : List ℤ) (cnt base lim : ℕ) 
   -- the same lists by another name
   pub space-renamed : (Y : ℕ → List ℕ) → ((i : ℕ) → X i ≡ Y i) → Space n Y l s cnt base lim
   space-renamed Y e = record { lists = renamed l (places n s) lim X (h .lists) Y e; room = h .room; sorted = h .sorted }
+
+  -- a scratch with the same places and the same table
+  pub space-same : (s′ : List ℤ) → Room n s′ → ((i : ℕ) → rd n PE s′ i ≡ rd n PE s i) → ((i : ℕ) → rd n LEN s′ i ≡ rd n LEN s i) → ((t : ℕ) → rd n ORD s′ t ≡ rd n ORD s t)
+      → Space n X l s′ cnt base lim
+  space-same s′ room p q r =
+      record {
+        lists = mem-by l (places n s) lim X (h .lists) (places n s′) (λ i. record { pe = p i; len = q i });
+        room = room;
+        sorted = sorted-by (places n s′) (rd n ORD s) (rd n ORD s′) r cnt base lim
+            (sorted-fewer (places n s) (places n s′) (λ i x. (p i, omega (arith, q i))) (rd n ORD s) cnt base lim lim (omega arith) (h .sorted));
+      }
