@@ -4,37 +4,39 @@
 use Prim.Native.Nat.{_+_, _-_, _<_, _^_, _≤_, suc, ℕ}
 use native.Mathlib.Omega.{arith}
 use mathlib.Core.Bool.{Bool, _||_, cond, false, true}
-use mathlib.Core.List.{List, [], _++_, _∷_, foldl}
-use mathlib.Core.Logic.{_≢_, ⊎-elim}
-use mathlib.Core.Path.{_∙_, _≡_, ap, refl, sym}
+use mathlib.Core.List.{List, [], _++_, _∷_, flatMap, foldl}
+use mathlib.Core.Logic.{_≢_, _⊎_, inl, inr, ⊎-elim}
+use mathlib.Core.Path.{_∙_, _≡_, ap, refl, subst⁻¹, sym}
+use borrow.Author.Tests.{lt-ltb}
 use lib.Dec.{eqb}
 use lib.IntN.{ℤ}
-use lib.ListN.{getD, length, length-append, length-map}
-use Rattle.plain.proofs.Entries.{upd-other, upd-same}
+use lib.ListN.{List·getD-eq-default, getD, length, length-append, length-map}
+use Rattle.plain.proofs.Entries.{entries-same, upd-other, upd-same}
 use Rattle.plain.proofs.Members.{append-either, member-append, member-cases, member-nil, no-member, not-cons}
 use Rattle.plain.proofs.Repeats.{distinct-snoc, length-below}
 use Rattle.plain.proofs.Sums.{total-append, total-one}
 use Rattle.plain.specs.Lists.{member, total}
 use Rattle.plain.specs.Members.{Distinct, In}
-use Rattle.plain.specs.Turns.{entries, upd}
+use Rattle.plain.specs.Turns.{entries, firsts, upd}
 use Rattle.definition.specs.Room.{Read}
 use Rattle.cells.proofs.Laws.{mem}
-use Rattle.cells.proofs.Slices.{same?}
+use Rattle.cells.proofs.Slices.{plus-sum, same?, split}
 use Rattle.cells.specs.Layout.{ELEN, LEN, ORD, PE, TMP, WANT}
 use Rattle.cells.specs.Links.{parent}
-use Rattle.cells.specs.View.{rd, up}
-use Rattle.packed.specs.Gather.{Outside, allLengths, cleared, collectedRest, droppedAll}
-use Rattle.packed.specs.Model.{packedAll}
+use Rattle.cells.specs.View.{at, plus, rd, up}
+use Rattle.packed.specs.Gather.{Cleared, Outside, allLengths, cleared, collectedRest, droppedAll, gatheredOutside, madeRoom, settled, summed}
+use Rattle.packed.specs.Model.{entered, laid, packedAll}
 use Rattle.packed.specs.Places.{Space, places, sumTo}
 use Rattle.packed.specs.Reading.{afterParts, entriesOf, picked, readAll, sofarOf}
 use Rattle.packed.specs.Tray.{taking, tookAll}
 use Rattle.packed.proofs.Collection.{collected}
 use Rattle.packed.proofs.Dropping.{Dropped, dropped-all, dropped-fold, except, lengths-sum, space-fold, sum-without}
-use Rattle.packed.proofs.Frame.{len-of}
-use Rattle.packed.proofs.Picked.{after-is}
+use Rattle.packed.proofs.Frame.{ends, len-of}
+use Rattle.packed.proofs.Gathers.{room-no-step, room-yes-step}
+use Rattle.packed.proofs.Picked.{after-is, picked-new}
 use Rattle.packed.proofs.Readings.{first-part, holds-all}
-use Rattle.packed.proofs.Settling.{Ready}
-use Rattle.packed.proofs.Spaces.{space-same}
+use Rattle.packed.proofs.Settling.{Ready, Settled, settled-there}
+use Rattle.packed.proofs.Spaces.{space-renamed, space-same}
 use Rattle.packed.proofs.Sums.{sum-same}
 use Rattle.packed.proofs.Taking.{Holds, wants}
 use Rattle.packed.specs.declared.Tray.{Tray}
@@ -172,3 +174,81 @@ module _ (n : ℕ) (X : ℕ → List ℕ) (l s : List ℤ) (made base lim : ℕ)
             long = c .long;
             fields = c .fields; dead = c .dead; parents = c .parents;
           }
+
+      abbrev new : List ℕ
+      new = entriesOf q
+
+      new-length : length new ≡ length q
+      new-length = length-map q (λ (a : Read). a .entry)
+
+      table₂ : entries (rd n TMP s₂) 0 (length new) ≡ new
+      table₂ = rw new-length (entries-same (rd n TMP s₁) (rd n TMP s₂) 0 0 (length q) (λ i b. freed .fields TMP (0 + i) refl) ∙ h .table)
+
+      fresh₂ : (i : ℕ) → i < made → rd n ORD s₂ i ≢ me
+      fresh₂ i b e = fresh i b (sym (h .fields ORD i refl refl) ∙ sym (freed .fields ORD i refl) ∙ e)
+
+      module _ (c : Cleared) (r : Ready n Y l s₂ made (length q) c) where
+        stands : Settled n Y l s₂ made me (c .ends .end) (c .ends .base) new (laid n (c .mem) (c .ends .end) (t .cnt) (c .lists)) (entered n (c .mem) made me (c .ends .end) (t .cnt))
+        stands =
+            let e : t .cnt ≡ length new = h .cnt ∙ sym new-length in
+            subst⁻¹ (λ (k : ℕ). Settled n Y l s₂ made me (c .ends .end) (c .ends .base) new (laid n (c .mem) (c .ends .end) k (c .lists)) (entered n (c .mem) made me (c .ends .end) k)) e
+            (settled-there n Y l s₂ made me new c hm turns fresh₂ table₂ (rw (← new-length) at r))
+
+        whole : (length q ≤ quota → (c .ends .end ≡ lim) × (c .ends .base ≡ base) × (t .mark ≡ 0)) → (quota < length q → (c .ends .end ≡ sumTo n L - t .mark) × (0 < t .mark))
+            → Gathered n X l s made base lim me es q (settled n me made t c)
+        unfolding settled summed
+        whole stay move =
+            let u : t .cnt ≡ length q = h .cnt in
+            let f = r .fits in
+            let p : plus (c .ends .end) (t .cnt) ≡ c .ends .end + length q = plus-sum (c .ends .end) (t .cnt) (omega (arith, u)) ∙ omega (arith, u) in
+            record {
+              space = rw (p, ← new-length) (space-renamed n (upd Y me new) _ _ (suc made) (c .ends .base) (c .ends .end + length new) (stands .space) (upd (except X es []) me new) (left-as new));
+              place = stands .place;
+              count = u;
+              free = p;
+              turns = plus-sum made 1 (omega arith) ∙ omega arith;
+              long = stands .long;
+              want = λ i. stands .fields WANT i refl refl refl ∙ freed .fields WANT i refl ∙ h .want i;
+              table = entries-same (rd n TMP s₁) (rd n TMP (entered n (c .mem) made me (c .ends .end) (t .cnt))) 0 0 (length q)
+                  (λ i b. stands .fields TMP (0 + i) refl refl refl ∙ freed .fields TMP (0 + i) refl) ∙ h .table;
+              order = λ i d. stands .order i d ∙ freed .fields ORD i refl ∙ h .fields ORD i refl refl;
+              last = stands .last;
+              fields = λ k i a b d e o. stands .fields k i a b o ∙ freed .fields k i b ∙ h .fields k i d e;
+              dead = λ i d z. stands .dead i d z ∙ freed .fields PE i refl ∙ h .fields PE i refl refl;
+              parents = λ i d z. stands .parents i d z ∙ freed .parents i ∙ h .parents i;
+              kept = λ b. let y = stay b in (y .0, y .1, rw (y .2));
+              moved = λ b. let y = move b in (y .0 ∙ ap (λ (k : ℕ). sumTo n L - k) (h .mark), rw (lt-ltb 0 (t .mark) (y .1)));
+            }
+
+      mark-none : length q ≤ quota → t .mark ≡ 0
+      mark-none b = h .mark ∙ List·getD-eq-default (sofarOf q) 0 (omega (arith, length-map q (λ (a : Read). a .sofar)))
+
+      mark-some : quota < length q → 0 < t .mark
+      mark-some b = omega (arith, h .mark, h .early quota b)
+
+      all-lengths : allLengths n s₁ ≡ sumTo n L
+      all-lengths =
+          let e = sum-same n L (rd n LEN s₁) (λ i a. len-of l (places n s₁) lim X (space₁ .lists) i) in
+          lengths-sum n s₁ (omega (arith, all-low)) ∙ e
+
+      either-way : sumTo n L + n ≤ length l → (quota < length q) ⊎ (length q ≤ quota)
+          → Gathered n X l s made base lim me es q (settled n me made t (madeRoom n me base lim made (t .mark) l s₁))
+      unfolding collectedRest s₂
+      either-way room (inl b) =
+          rw (← room-yes-step n me base lim made (t .mark) l s₁ (collectedRest n me base lim made (t .mark) l s₁) refl (mark-some b))
+          (whole (collectedRest n me base lim made (t .mark) l s₁) (ready-moved room) (λ d. absurd (omega arith)) (λ d. (ap (λ (k : ℕ). k - t .mark) all-lengths, mark-some b)))
+      either-way room (inr b) =
+          rw (← room-no-step n me base lim made (t .mark) l s₁ s₂ refl (omega (arith, mark-none b)))
+          (whole (cleared l s₂ (record { base = base; end = lim })) (ready-kept b) (λ d. (refl, refl, mark-none b)) (λ d. absurd (omega arith)))
+
+    -- THE gather
+    pub gathered-rep : made < n → ((t : ℕ) → t < made → rd n ORD s t ≢ me) → sumTo n L + n ≤ length l
+        → Gathered n X l s made base lim me es q (gatheredOutside n me base lim made l s)
+    unfolding gatheredOutside
+    gathered-rep turns fresh room =
+        let m = tookAll n quota l s me in
+        either-way turns fresh (m .mem) (m .tray) taken room (split quota (length q))
+
+    -- the list is the first of each wanted number, of the elements' lists in order and then the own variables
+    pub gathered-new : entriesOf q ≡ firsts (wants n s) (flatMap X es ++ vs)
+    gathered-new = picked-new (wants n s) X es vs
