@@ -18,3 +18,5 @@ pub mod Newcomer
 pub mod Dropping
 pub mod Settling
 pub mod Outside
+pub mod Inside
+pub mod Keeping

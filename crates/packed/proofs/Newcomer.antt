@@ -67,3 +67,12 @@ module _ (n : ℕ) (X : ℕ → List ℕ) (l s : List ℤ) (cnt base lim : ℕ) 
             (simp (mem, room-yes n s r, lt-ltb cnt n hc))
             fresh;
       }
+
+laid-none : (n : ℕ) (s : List ℤ) (e : ℕ) (l : List ℤ) → Laid l (rd n TMP s) (laid n s e 0 l) e 0
+unfolding laid times
+laid-none n s e l = record { here = λ t h. absurd (omega arith); rest = λ q h. refl; long = refl }
+
+-- the same, where nothing at all may be stored
+pub laid-some : (n : ℕ) (s : List ℤ) (e k : ℕ) (l : List ℤ) → (0 < k → e + k ≤ length l) → Laid l (rd n TMP s) (laid n s e k l) e k
+laid-some n s e zero l b = laid-none n s e l
+laid-some n s e (suc k) l b = laid-there n s e (suc k) l (b (omega arith))

@@ -154,8 +154,14 @@ module _ (n : ℕ) (X : ℕ → List ℕ) (l s : List ℤ) (made base lim : ℕ)
       ready-kept : length q ≤ quota → Ready n Y l s₂ made (length q) (cleared l s₂ (record { base = base; end = lim }))
       ready-kept b =
           record {
-            top = lim; space = space₂; behind = omega arith; fits = omega (arith, g .lists .fits); long = refl;
-            fields = λ f i e. refl; dead = λ i z. refl; parents = λ i z. refl;
+            top = lim;
+            space = space₂;
+            behind = omega arith;
+            fits = omega (arith, g .lists .fits);
+            long = refl;
+            fields = λ f i e. refl;
+            dead = λ i z. refl;
+            parents = λ i z. refl;
           }
 
       -- there is not
@@ -172,7 +178,9 @@ module _ (n : ℕ) (X : ℕ → List ℕ) (l s : List ℤ) (made base lim : ℕ)
             behind = omega (arith, c .total, z, h .mark, h .late quota, read-sum, left-sum);
             fits = omega (arith, z, few);
             long = c .long;
-            fields = c .fields; dead = c .dead; parents = c .parents;
+            fields = c .fields;
+            dead = c .dead;
+            parents = c .parents;
           }
 
       abbrev new : List ℕ

@@ -25,7 +25,7 @@ after-is X c (e ∷ es) = after-is X (suc c + length (X e)) es ∙ omega arith
 
 -- ---- what is read
 
-entries-list : (c : ℕ) (vs : List ℕ) → entriesOf (readList c vs) ≡ vs
+pub entries-list : (c : ℕ) (vs : List ℕ) → entriesOf (readList c vs) ≡ vs
 unfolding readList
 entries-list c [] = refl
 entries-list c (v ∷ vs) = ap (λ (l : List ℕ). v ∷ l) (entries-list (suc c) vs)

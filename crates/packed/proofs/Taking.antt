@@ -70,8 +70,18 @@ pub holds-none : (n quota : ℕ) (s : List ℤ) → Room n s → Holds n quota s
 unfolding member
 holds-none n quota s room =
     record {
-      cnt = refl; reads = refl; mark = refl; table = entries-none (rd n TMP s) 0; want = λ i. refl; fields = λ c i a b. refl; parents = λ i. refl; room = room;
-      once = tt; low = λ x h. no-member x h; late = λ k. omega arith; early = λ k h. absurd (omega arith);
+      cnt = refl;
+      reads = refl;
+      mark = refl;
+      table = entries-none (rd n TMP s) 0;
+      want = λ i. refl;
+      fields = λ c i a b. refl;
+      parents = λ i. refl;
+      room = room;
+      once = tt;
+      low = λ x h. no-member x h;
+      late = λ k. omega arith;
+      early = λ k h. absurd (omega arith);
     }
 
 module _ (n : ℕ) (small : n < 2 ^ 63) (quota : ℕ) (s : List ℤ) where
@@ -80,8 +90,18 @@ module _ (n : ℕ) (small : n < 2 ^ 63) (quota : ℕ) (s : List ℤ) where
   unfolding passedBy
   holds-passed q r m b h =
       record {
-        cnt = h .cnt; reads = plus-sum (m .tray .reads) 1 (omega (arith, h .reads)) ∙ omega (arith, h .reads); mark = h .mark; table = h .table; want = h .want;
-        fields = h .fields; parents = h .parents; room = h .room; once = h .once; low = h .low; late = λ k. omega (arith, h .late k); early = h .early;
+        cnt = h .cnt;
+        reads = plus-sum (m .tray .reads) 1 (omega (arith, h .reads)) ∙ omega (arith, h .reads);
+        mark = h .mark;
+        table = h .table;
+        want = h .want;
+        fields = h .fields;
+        parents = h .parents;
+        room = h .room;
+        once = h .once;
+        low = h .low;
+        late = λ k. omega (arith, h .late k);
+        early = h .early;
       }
 
   module _ (q : List Read) (r : ℕ) (m : Taking) (h : Holds n quota s q r m) (x : ℕ) where
@@ -187,10 +207,14 @@ module _ (n : ℕ) (small : n < 2 ^ 63) (quota : ℕ) (s : List ℤ) where
       where
         go : (0 < rd n WANT (m .mem) x) ⊎ (rd n WANT (m .mem) x ≤ 0) → Holds n quota s (pickOne (wants n s) q a) (suc r) (took n quota x m)
         go (inl z) =
-            rw (picks true (lt-ltb 0 (rd n WANT (m .mem) x) z),
-            ← take-yes n x quota (m .mem) (m .tray) (rd n WANT (m .mem) x) refl (s₁ z b) (s₂ z b) (plus (m .tray .reads) 1) (counted quota (plus (m .tray .reads) 1) (m .tray)) refl refl refl refl z)
+            rw (
+              picks true (lt-ltb 0 (rd n WANT (m .mem) x) z),
+              ← take-yes n x quota (m .mem) (m .tray) (rd n WANT (m .mem) x) refl (s₁ z b) (s₂ z b) (plus (m .tray .reads) 1) (counted quota (plus (m .tray .reads) 1) (m .tray)) refl refl refl refl z,
+            )
             (collected z b)
         go (inr z) =
-            rw (picks false (le-ltb 0 (rd n WANT (m .mem) x) z),
-            ← take-no n x quota (m .mem) (m .tray) (rd n WANT (m .mem) x) refl (passedBy (m .tray)) refl z)
+            rw (
+              picks false (le-ltb 0 (rd n WANT (m .mem) x) z),
+              ← take-no n x quota (m .mem) (m .tray) (rd n WANT (m .mem) x) refl (passedBy (m .tray)) refl z,
+            )
             (holds-passed q r m b h)
