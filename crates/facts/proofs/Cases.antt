@@ -11,10 +11,11 @@ use Rattle.plain.proofs.Folds.{hits-where}
 use Rattle.plain.proofs.Logic.{either, clash, or-cases}
 use Rattle.plain.specs.Lists.{member, isNone}
 use Rattle.definition.specs.State.{Graph, kind, weight, elementsOf, variablesOf, parent, isVariable, isElement, isDense}
-use Rattle.definition.specs.Pivot.{collected}
+use Rattle.definition.specs.Pivot.{collected, passed}
+use Rattle.definition.specs.Trim.{droppedElements}
 use Rattle.facts.proofs.Invariant.{var-elsewhere, element-inside, var-not-element, var-not-dense}
 use Rattle.facts.proofs.Collected.{collected-var}
-use Rattle.facts.proofs.Stepped.{isMass, isTaken, isDropped, After, away, remains, Stepped, not-dropped}
+use Rattle.facts.proofs.Stepped.{isMass, isTaken, isDropped, After, away, remains, Stepped, not-dropped, dropped-was}
 use Rattle.facts.specs.Invariant.{Var, Live, Quotient}
 
 taken-live : (b : Bool) (p : ℕ) (o : Option ℕ) → isNone (cond b (some p) o) ≡ true → (b ≡ false) × (isNone o ≡ true)
@@ -53,6 +54,15 @@ module _ {n : ℕ} {aggressive : Bool} {g t : Graph} {p : ℕ} (q : Quotient n g
       go : After aggressive g t p v → isDense (kind t v) ≡ false
       go (away a b) = ap isDense a
       go (remains a b c d) = ap isDense b ∙ var-not-dense (kind g v) (collected-var q p pv v m)
+
+  -- dense rows stay, and no row becomes one
+  pub dense-after : (v : ℕ) → isDense (kind t v) ≡ isDense (kind g v)
+  dense-after v =
+      either (isDense (kind t v) ≡ isDense (kind g v)) (eqb v p)
+      (λ e. let x : v ≡ p = eqb-true v p e in rw x (ap isDense (st .pivot-kind) ∙ sym (var-not-dense (kind g p) pv)))
+      (λ e. either (isDense (kind t v) ≡ isDense (kind g v)) (member v (collected g p))
+      (λ m. collected-not-dense v m ∙ sym (var-not-dense (kind g v) (collected-var q p pv v m)))
+      (λ m. ap isDense (st .still-kind v (eqb-false v p e) m)))
 
   -- a live element is the new one, or was live and is not taken
   pub live-cases : (P : Type 0) (e : ℕ) → Live t e → (e ≡ p → P) → (e ≢ p → member e (collected g p) ≡ false → Live g e → isTaken aggressive g p e ≡ false → P) → P
@@ -99,3 +109,11 @@ module _ {n : ℕ} {aggressive : Bool} {g t : Graph} {p : ℕ} (q : Quotient n g
   -- the row of an element that stays
   pub members-same : (e : ℕ) → Live g e → variablesOf t e ≡ variablesOf g e
   members-same e h = st .still-variables e (element-apart e (h .0)) (element-outside e (h .0))
+
+  -- who takes up what: an element that is taken is an element of a variable, so it is live and has a variable
+  pub taken-known : (e : ℕ) → isTaken aggressive g p e ≡ true → (i : ℕ) × Var g i × (member e (elementsOf g i) ≡ true)
+  taken-known e k = or-cases ((i : ℕ) × Var g i × (member e (elementsOf g i) ≡ true)) (member e (elementsOf g p)) (isDropped aggressive g p e) k
+      (λ m. (p, pv, m))
+      (λ m.
+      let r = hits-where (λ v. member e (droppedElements aggressive (passed g p) (collected g p) v)) (collected g p) m in
+      (r .0, collected-var q p pv (r .0) (r .1), dropped-was aggressive g p q pv e (r .0) (r .2)))

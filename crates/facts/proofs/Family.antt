@@ -12,9 +12,15 @@ use Rattle.plain.proofs.Logic.{or-elim, cond-has, either, and-left, and-right}
 use Rattle.plain.proofs.Members.{member-first, member-there, member-either, member-left, member-right, append-either, kept-both, no-member, member-kept, upTo-below, member-upTo}
 use Rattle.plain.specs.Lists.{upTo, delete, isNone}
 use Rattle.plain.specs.Members.{In}
-use Rattle.definition.specs.State.{Graph, Kind, variable, merged, element, dense, rowCount, kind, parent, rep, isElement, isMerged, isDense, denseRows}
+use Rattle.definition.specs.State.{Graph, Kind, variable, merged, element, dense, rowCount, kind, parent, rep, isVariable, isElement, isMerged, isDense, denseRows}
 use Rattle.definition.specs.Tree.{isChildOf, childrenOf, roots, biggest, bigLast}
 use Rattle.definition.specs.Ordering.{mergedWith, blockOf}
+
+pub is-variable : (k : Kind) → isVariable k ≡ true → k ≡ variable
+is-variable variable e = refl
+is-variable merged e = absurd (false≢true e)
+is-variable element e = absurd (false≢true e)
+is-variable dense e = absurd (false≢true e)
 
 pub is-element : (k : Kind) → isElement k ≡ true → k ≡ element
 is-element variable e = absurd (false≢true e)

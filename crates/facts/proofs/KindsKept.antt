@@ -5,22 +5,20 @@ use Prim.Native.Nat.{ℕ, zero, suc}
 use mathlib.Core.Path.{_≡_, refl, sym, ap, _∙_}
 use mathlib.Core.Bool.{Bool, true, false}
 use mathlib.Core.List.{List}
-use lib.Dec.{eqb, ltb}
+use lib.Dec.{ltb}
 use lib.ListN.{length}
-use borrow.Author.Tests.{eqb-true, eqb-false}
-use Rattle.plain.proofs.Logic.{either, bool-ext}
+use Rattle.plain.proofs.Logic.{bool-ext}
 use Rattle.plain.proofs.Members.{upTo-below}
 use Rattle.plain.proofs.Folds.{keep-same, all-of, all-in}
 use Rattle.plain.specs.Lists.{member, keep, upTo}
 use Rattle.definition.specs.State.{Graph, State, kind, rowCount, variablesOf, hasWeight, isVariable, isElement, isDense, startKind, started, denseRows}
 use Rattle.definition.specs.Threshold.{Rule}
 use Rattle.definition.specs.Answers.{Problem}
-use Rattle.definition.specs.Pivot.{Found, nobody, found, pivot, collected}
+use Rattle.definition.specs.Pivot.{Found, nobody, found, pivot}
 use Rattle.definition.specs.Elimination.{step, run, finalState}
 use Rattle.definition.specs.Ordering.{graphOf, limitOf, keyFor, finalOf}
-use Rattle.facts.proofs.Invariant.{var-not-dense, var-weighs, weighs-var}
-use Rattle.facts.proofs.Collected.{collected-var}
-use Rattle.facts.proofs.Stepped.{After, away, remains, Stepped}
+use Rattle.facts.proofs.Invariant.{var-weighs, weighs-var}
+use Rattle.facts.proofs.Cases.{dense-after}
 use Rattle.facts.proofs.Step.{stepped}
 use Rattle.facts.proofs.Pivots.{pivoted}
 use Rattle.facts.proofs.Theorem.{inv-step, inv-run}
@@ -46,19 +44,6 @@ module _ {n : ℕ} {g : Graph} (q : Quotient n g) where
   weighs-member e i h m = weighs i (q .members-kind e i h m)
 
 -- ---- dense rows stay, and no row becomes one
-
-module _ {n : ℕ} {aggressive : Bool} {g t : Graph} {p : ℕ} (q : Quotient n g) (pv : Var g p) (st : Stepped n aggressive g t p) where
-  dense-after : (v : ℕ) → isDense (kind t v) ≡ isDense (kind g v)
-  dense-after v =
-      either (isDense (kind t v) ≡ isDense (kind g v)) (eqb v p)
-      (λ e. let k : v ≡ p = eqb-true v p e in rw k (ap isDense (st .pivot-kind) ∙ sym (var-not-dense (kind g p) pv)))
-      (λ e. either (isDense (kind t v) ≡ isDense (kind g v)) (member v (collected g p))
-      (λ m. new m (st .after v m))
-      (λ m. ap isDense (st .still-kind v (eqb-false v p e) m)))
-    where
-      new : member v (collected g p) ≡ true → After aggressive g t p v → isDense (kind t v) ≡ isDense (kind g v)
-      new m (away k w) = ap isDense k ∙ sym (var-not-dense (kind g v) (collected-var q p pv v m))
-      new m (remains a k w b) = ap isDense k
 
 module _ {n : ℕ} (keyOf : ℕ → ℕ) (aggressive : Bool) where
   dense-step : (s : State) → Inv n s → (v : ℕ) → isDense (kind (step keyOf n aggressive s (pivot s) .graph) v) ≡ isDense (kind (s .graph) v)

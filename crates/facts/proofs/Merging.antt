@@ -84,6 +84,31 @@ part-moved q i j h vs s li lj ne e d mi mj =
 
 -- ---- step 5
 
+-- what each merge keeps, all of them keep
+module _ (P : Graph → Type 0) (keyOf : ℕ → ℕ) (vs : List ℕ)
+    (merge : (i j : ℕ) (h : Graph) → member i vs ≡ true → member j vs ≡ true → i ≢ j → alike keyOf h i j ≡ true → P h → P (mergeInto i j h)) where
+  keeps-one : (i : ℕ) (js : List ℕ) (h : Graph) → member i vs ≡ true → member i js ≡ false → Within js vs → P h → P (foldl (mergeOne keyOf i) h js)
+  unfolding mergeOne
+  keeps-one i [] h mi ni w k = k
+  keeps-one i (j ∷ js) h mi ni w k =
+      keeps-one i js _ mi (not-there i j js ni) (λ x m. w x (member-there x j js m))
+      (cond-has P (alike keyOf h i j) (λ e. merge i j h mi (w j (member-here j js)) (not-here i j js ni) e k) (λ e. k))
+
+  keeps-all : (js : List ℕ) (h : Graph) → Distinct js → Within js vs → P h → P (mergeAll keyOf js h)
+  unfolding mergeAll
+  keeps-all [] h d w k = k
+  keeps-all (i ∷ js) h d w k =
+      keeps-all js _ (d .1) (λ x m. w x (member-there x i js m))
+      (keeps-one i js h (w i (member-here i js)) (d .0) (λ x m. w x (member-there x i js m)) k)
+
+pub merged-keeps : (P : Graph → Type 0) (keyOf : ℕ → ℕ) (new : List ℕ) (g : Graph) → Distinct new
+    → ((i j : ℕ) (h : Graph) → member i (keep (hasWeight g) new) ≡ true → member j (keep (hasWeight g) new) ≡ true → i ≢ j → alike keyOf h i j ≡ true → P h → P (mergeInto i j h))
+    → P g → P (mergedAlike keyOf new g)
+unfolding mergedAlike
+merged-keeps P keyOf new g d merge k =
+    let vs = keep (hasWeight g) new in
+    keeps-all P keyOf vs merge (reverse vs) g (distinct-reverse vs (distinct-keep (hasWeight g) new d)) (λ x m. sym (member-reverse x vs) ∙ m) k
+
 pub data Fate (g h : Graph) (v : ℕ) : Type 0 where
   stays : kind h v ≡ kind g v → weight g v ≤ weight h v → parent h v ≡ parent g v → Fate g h v
   joins : kind h v ≡ merged → weight h v ≡ 0 → Fate g h v
@@ -150,28 +175,10 @@ module _ {n : ℕ} (vs : List ℕ) (g : Graph) (d : Distinct vs) (l : (v : ℕ) 
       grow (stays a b c) w = stays (kind-kept i j i h ne ∙ a) (rw (weight-into i j h (k .sized) (l i mi) ne) (omega arith)) (parent-kept i j i h ne ∙ c)
       grow (joins a b) w = absurd (omega arith)
 
-  joined-one : (keyOf : ℕ → ℕ) (i : ℕ) (js : List ℕ) (h : Graph) → member i vs ≡ true → member i js ≡ false → Within js vs → Joined n vs g h
-      → Joined n vs g (foldl (mergeOne keyOf i) h js)
-  unfolding mergeOne
-  joined-one keyOf i [] h mi ni w k = k
-  joined-one keyOf i (j ∷ js) h mi ni w k =
-      joined-one keyOf i js _ mi (not-there i j js ni) (λ x m. w x (member-there x j js m))
-      (cond-has (Joined n vs g) (alike keyOf h i j)
-      (λ e. joined-merge keyOf i j h mi (w j (member-here j js)) (not-here i j js ni) e k) (λ e. k))
-
-  joined-all : (keyOf : ℕ → ℕ) (js : List ℕ) (h : Graph) → Distinct js → Within js vs → Joined n vs g h → Joined n vs g (mergeAll keyOf js h)
-  unfolding mergeAll
-  joined-all keyOf [] h e w k = k
-  joined-all keyOf (i ∷ js) h e w k =
-      joined-all keyOf js _ (e .1) (λ x m. w x (member-there x i js m))
-      (joined-one keyOf i js h (w i (member-here i js)) (e .0) (λ x m. w x (member-there x i js m)) k)
-
 -- the rows that are compared: those that have a weight left after step 4
 pub joined : {n : ℕ} (keyOf : ℕ → ℕ) (new : List ℕ) (g : Graph) → Sized n g → Distinct new → ((v : ℕ) → member v new ≡ true → v < n)
     → Joined n (keep (hasWeight g) new) g (mergedAlike keyOf new g)
-unfolding mergedAlike
 joined {n} keyOf new g s d l =
     let vs = keep (hasWeight g) new in
-    let dv = distinct-keep (hasWeight g) new d in
-    joined-all vs g dv (λ v m. l v (kept-was v (hasWeight g) new m)) keyOf (reverse vs) g (distinct-reverse vs dv)
-    (λ x m. sym (member-reverse x vs) ∙ m) (joined-self vs g s)
+    merged-keeps (Joined n vs g) keyOf new g d
+    (joined-merge vs g (distinct-keep (hasWeight g) new d) (λ v m. l v (kept-was v (hasWeight g) new m)) keyOf) (joined-self vs g s)

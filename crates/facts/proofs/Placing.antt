@@ -75,6 +75,10 @@ module _ (p : ℕ) (vs : List ℕ) (size : ℕ) (g : Graph) where
   unfolding asElement putKind putElements putVariables putDegree
   element-parents = refl
 
+  pub element-reps : asElement p vs size g .reps ≡ g .reps
+  unfolding asElement putKind putElements putVariables putDegree
+  element-reps = refl
+
   pub element-kind-other : (v : ℕ) → v ≢ p → kind (asElement p vs size g) v ≡ kind g v
   unfolding asElement putKind putElements putVariables putDegree
   element-kind-other v ne = getD-set-other (g .kinds) p v element merged ne

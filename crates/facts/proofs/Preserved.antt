@@ -231,7 +231,7 @@ module _ {n : ℕ} {aggressive : Bool} {g t : Graph} {p : ℕ} (q : Quotient n g
   split h e l = split-members (weight h) (collected g p) (variablesOf g e) (distinct-collected g p) (q .distinct-members e l)
 
   -- the members of an element that stays are closed under equal lists
-  members-closed : (e i j : ℕ) → Live g e → isTaken aggressive g p e ≡ false → member i (collected g p) ≡ true → member j (collected g p) ≡ true
+  pub members-closed : (e i j : ℕ) → Live g e → isTaken aggressive g p e ≡ false → member i (collected g p) ≡ true → member j (collected g p) ≡ true
       → Within (keptE aggressive g p i ++ keptV g p i) (keptE aggressive g p j ++ keptV g p j) → member i (variablesOf g e) ≡ true → member j (variablesOf g e) ≡ true
   members-closed e i j l u mi mj w m =
       let vj = collected-var q p pv j mj in

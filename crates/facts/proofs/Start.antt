@@ -89,13 +89,17 @@ module _ (limit : ℕ) (nbrs : List (List ℕ)) where
       go true false e = a
       go false false e = c (eqb-false (startDegree nbrs v) 0 e)
 
-  element-empty : (e : ℕ) → isElement (kind g e) ≡ true → length (getD nbrs e []) ≡ 0
+  -- nobody is merged
+  pub start-not-merged : (v : ℕ) → v < n → isMerged (kind g v) ≡ false
+  start-not-merged v l = ap isMerged (kind-in v l) ∙ kind-cases (λ (k : Kind). isMerged k ≡ false) v refl (λ z. refl) (λ z. refl)
+
+  pub element-empty : (e : ℕ) → isElement (kind g e) ≡ true → length (getD nbrs e []) ≡ 0
   element-empty e h =
       let l = kind-inside e (element-not-merged (kind g e) h) in
       kind-cases (λ (k : Kind). isElement k ≡ true → length (getD nbrs e []) ≡ 0) e (λ x. absurd (false≢true x)) (λ z x. z) (λ z x. absurd (false≢true x))
       (ap isElement (sym (kind-in e l)) ∙ h)
 
-  var-degree : (i : ℕ) → Var g i → 0 < length (getD nbrs i [])
+  pub var-degree : (i : ℕ) → Var g i → 0 < length (getD nbrs i [])
   var-degree i h =
       let l = kind-inside i (var-not-merged (kind g i) h) in
       kind-cases (λ (k : Kind). isVariable k ≡ true → 0 < length (getD nbrs i [])) i (λ x. absurd (false≢true x)) (λ z x. absurd (false≢true x)) (λ z x. positive (length (getD nbrs i [])) z)
@@ -109,7 +113,7 @@ module _ (limit : ℕ) (nbrs : List (List ℕ)) where
   none-in [] h x m = no-member x m
   none-in (y ∷ ys) h x m = absurd (omega arith)
 
-  no-member-of : (e i : ℕ) → isElement (kind g e) ≡ true → member i (variablesOf g e) ≡ true → ⊥
+  pub no-member-of : (e i : ℕ) → isElement (kind g e) ≡ true → member i (variablesOf g e) ≡ true → ⊥
   no-member-of e i h m = none-in (getD nbrs e []) (element-empty e h) i (ap (member i) (sym (variables-is e)) ∙ m)
 
   module _ (nb : Neighbourly nbrs) where

@@ -5,7 +5,7 @@ use native.Mathlib.Omega.{arith}
 use mathlib.Core.Path.{_≡_, sym, ap, _∙_}
 use mathlib.Core.Logic.{_≢_}
 use mathlib.Core.Bool.{Bool, true, false, cond}
-use mathlib.Core.List.{List, [], _∷_}
+use mathlib.Core.List.{List, [], _∷_, _++_}
 use mathlib.Core.Option.{Option, none}
 use lib.Dec.{ltb}
 use lib.ListN.{getD}
@@ -16,7 +16,7 @@ use Rattle.plain.proofs.Members.{member-kept, not-kept, not-kept-at}
 use Rattle.plain.proofs.Repeats.{distinct-keep}
 use Rattle.plain.specs.Lists.{member, keep, total}
 use Rattle.plain.specs.Members.{Distinct}
-use Rattle.definition.specs.State.{Graph, State, Kind, merged, kind, weight, elementsOf, variablesOf, parent, degree, hasWeight}
+use Rattle.definition.specs.State.{Graph, State, Kind, merged, kind, weight, elementsOf, variablesOf, parent, degree, rep, hasWeight}
 use Rattle.definition.specs.Pivot.{collected, passed, delisted}
 use Rattle.definition.specs.Place.{Placed, placed, asElement, newDegree}
 use Rattle.definition.specs.Elimination.{eliminate, finish}
@@ -24,7 +24,7 @@ use Rattle.facts.proofs.Invariant.{var-inside}
 use Rattle.facts.proofs.Collected.{distinct-collected, collected-apart, collected-var, pivot-outside}
 use Rattle.facts.proofs.Rows.{same-passed, trimDegree, still-elements, still-variables, still-degree, still-kind, still-weight}
 use Rattle.facts.proofs.Merging.{Fate, stays, joins}
-use Rattle.facts.proofs.Placing.{SameButDegrees, placed-same, placed-other, placed-own, element-weights, element-parents, element-kind-other, element-elements-other, element-variables-other, element-degree-other, element-kind, element-variables, element-degree}
+use Rattle.facts.proofs.Placing.{SameButDegrees, placed-same, placed-other, placed-own, element-weights, element-parents, element-reps, element-kind-other, element-elements-other, element-variables-other, element-degree-other, element-kind, element-variables, element-degree}
 use Rattle.facts.proofs.Weights.{sums3, conserved3}
 use Rattle.facts.proofs.Stepped.{isMass, afterTrim, afterMerge, After, away, remains, Stepped, inside, weight2, kind2, elements2, variables2, degree2, var-parent2, other-parent2, joined2}
 use Rattle.facts.proofs.Sizes.{sized-asElement, sized-putDegree}
@@ -100,10 +100,13 @@ module _ {n : ℕ} (keyOf : ℕ → ℕ) (aggressive : Bool) (g : Graph) (p : �
     pub weight-t : (v : ℕ) → weight t v ≡ weight g3 v
     weight-t v = ap (λ (l : List ℕ). getD l v 0) (same .weights ∙ element-weights p survivors size g3)
 
-    parent-t : (v : ℕ) → parent t v ≡ parent g3 v
+    pub rep-t : (v : ℕ) → rep t v ≡ rep g3 v
+    rep-t v = ap (λ (l : List ℕ). getD l v 0) (same .reps ∙ element-reps p survivors size g3)
+
+    pub parent-t : (v : ℕ) → parent t v ≡ parent g3 v
     parent-t v = ap (λ (l : List (Option ℕ)). getD l v none) (same .parents ∙ element-parents p survivors size g3)
 
-    kind-t : (v : ℕ) → v ≢ p → kind t v ≡ kind g3 v
+    pub kind-t : (v : ℕ) → v ≢ p → kind t v ≡ kind g3 v
     kind-t v ne = ap (λ (l : List Kind). getD l v merged) (same .kinds) ∙ element-kind-other p survivors size g3 v ne
 
     elements-t : (v : ℕ) → v ≢ p → elementsOf t v ≡ elementsOf g2 v
@@ -147,6 +150,10 @@ module _ {n : ℕ} (keyOf : ℕ → ℕ) (aggressive : Bool) (g : Graph) (p : �
         distinct-survivors : Distinct survivors
         distinct-survivors = distinct-keep (hasWeight g3) new (distinct-collected g p)
 
+    pub degree-p : degree t p ≡ size
+    unfolding survivorsOf
+    degree-p = placed-other left size p survivors (start queues least) (not-kept p (hasWeight g3) new (pivot-outside g p)) ∙ element-degree p survivors size g3 s3 lp
+
     pub stepped-t : Stepped n aggressive g t p
     unfolding survivorsOf restOf
     stepped-t = record {
@@ -171,9 +178,6 @@ module _ {n : ℕ} (keyOf : ℕ → ℕ) (aggressive : Bool) (g : Graph) (p : �
       conserved = ap (λ (l : List ℕ). getD l p 0 + total (λ v. getD l v 0) new) (same .weights ∙ element-weights p survivors size g3) ∙ conserved3 keyOf aggressive g p q pv;
       new-variables = λ v m e. variables-t v (collected-apart g p v m) ∙ variables2 aggressive g p q pv v m e;
     }
-      where
-        degree-p : degree t p ≡ size
-        degree-p = placed-other left size p survivors (start queues least) (not-kept p (hasWeight g3) new (pivot-outside g p)) ∙ element-degree p survivors size g3 s3 lp
 
 pub stepped : {n : ℕ} (keyOf : ℕ → ℕ) (m : ℕ) (aggressive : Bool) (s : State) (p d : ℕ) → Quotient n (s .graph) → Var (s .graph) p
     → Stepped n aggressive (s .graph) (eliminate keyOf m aggressive s p d .graph) p
@@ -188,3 +192,16 @@ unfolding eliminate finish survivorsOf restOf
 gone-after keyOf m aggressive s p d q pv =
     ap (λ (w : ℕ). s .gone + w)
     (sym (weight-t keyOf aggressive (s .graph) p q pv (m - (s .gone + weight (afterMerge keyOf aggressive (s .graph) p) p)) (delisted (s .graph) (s .queues) (p ∷ collected (s .graph) p)) d p))
+
+-- what the step tells the statistics
+pub fronts-after : {n : ℕ} (keyOf : ℕ → ℕ) (m : ℕ) (aggressive : Bool) (s : State) (p d : ℕ) → Quotient n (s .graph) → Var (s .graph) p
+    → eliminate keyOf m aggressive s p d .fronts
+    ≡ s .fronts ++ (record { row = p; pivots = weight (eliminate keyOf m aggressive s p d .graph) p; rest = degree (eliminate keyOf m aggressive s p d .graph) p } ∷ [])
+unfolding eliminate finish survivorsOf restOf
+fronts-after keyOf m aggressive s p d q pv =
+    let left = m - (s .gone + weight (afterMerge keyOf aggressive (s .graph) p) p) in
+    let queues = delisted (s .graph) (s .queues) (p ∷ collected (s .graph) p) in
+    ap (λ (w : ℕ). s .fronts ++ (record { row = p; pivots = w; rest = restOf keyOf aggressive (s .graph) p } ∷ []))
+    (sym (weight-t keyOf aggressive (s .graph) p q pv left queues d p))
+    ∙ ap (λ (w : ℕ). s .fronts ++ (record { row = p; pivots = weight (eliminate keyOf m aggressive s p d .graph) p; rest = w } ∷ []))
+    (sym (degree-p keyOf aggressive (s .graph) p q pv left queues d))

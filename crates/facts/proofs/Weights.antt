@@ -97,7 +97,7 @@ module _ {n : ℕ} (keyOf : ℕ → ℕ) (aggressive : Bool) (g : Graph) (p : �
   entries : (v : ℕ) → member v new ≡ true → isMass aggressive g p v ≡ false → entriesOf g2 v ≡ rotate (keptE aggressive g p v) ++ rotate (keptV g p v)
   entries v m e = rw (elements2 aggressive g p q pv v m e, variables2 aggressive g p q pv v m e)
 
-  entry : (x v : ℕ) → member v new ≡ true → isMass aggressive g p v ≡ false → member x (entriesOf g2 v) ≡ member x (keptE aggressive g p v ++ keptV g p v)
+  pub entry : (x v : ℕ) → member v new ≡ true → isMass aggressive g p v ≡ false → member x (entriesOf g2 v) ≡ member x (keptE aggressive g p v ++ keptV g p v)
   entry x v m e =
       ap (member x) (entries v m e) ∙ member-append x (rotate (keptE aggressive g p v)) (rotate (keptV g p v))
       ∙ ap (λ (b : Bool). b || member x (rotate (keptV g p v))) (member-rotate x (keptE aggressive g p v))

@@ -1,4 +1,4 @@
--- What is to be proved of the history of a run, the plan's H0 to H5, stated of a state and what is told beside it.
+-- What is true of the history of a run, the plan's H0 to H5, stated of a state and what is told beside it.
 -- Assumes nothing.
 use Prim.Native.Nat.{ℕ, _<_}
 use mathlib.Core.Path.{_≡_}

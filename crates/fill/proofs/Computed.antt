@@ -1,4 +1,4 @@
--- The hypotheses `Ended`, `Counted` and `Tidy`, computed at the end of small runs: they can be met, and no field of them is false there. No proof rests on it.
+-- The hypotheses `Ended`, `Counted` and `Tidy`, computed at the end of small runs: a test of what Discharged proves of every run. No proof rests on it.
 -- Assumes nothing.
 use Prim.Native.Nat.{ℕ}
 use mathlib.Core.Path.{_≡_, refl}

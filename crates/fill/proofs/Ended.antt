@@ -1,20 +1,18 @@
 -- What the fill bound takes of the end of a run. H0, H1, H2, H4, H5 are those of Past; the others are W1, A2, and how elements are born.
--- Nothing of it is proved here. H3 is not needed: at the end nothing is active, so that H1 says it.
+-- Discharged proves it of every run from neighbourly lists. H3 is not needed: at the end nothing is active, so that H1 says it.
 -- Assumes nothing.
 use Prim.Native.Nat.{ℕ, _<_}
 use native.Mathlib.Omega.{arith}
 use mathlib.Core.Path.{_≡_}
 use mathlib.Core.Bool.{false}
-use mathlib.Core.List.{List, [], _∷_}
+use mathlib.Core.List.{List, []}
 use mathlib.Core.Option.{some}
 use lib.Dec.{ltb}
 use lib.ListN.{length, getD, List·getD-eq-default}
 use borrow.Author.Tests.{ltb-true, ltb-false}
-use Rattle.plain.proofs.Logic.{either, or-elim}
-use Rattle.plain.proofs.Members.{member-upTo, member-either}
-use Rattle.plain.proofs.Positions.{position-le, position-is}
-use Rattle.plain.proofs.Repeats.{length-countUp, length-within}
-use Rattle.plain.specs.Lists.{upTo, member}
+use Rattle.plain.proofs.Logic.{either}
+use Rattle.plain.proofs.Positions.{position-below-bound}
+use Rattle.plain.specs.Lists.{member}
 use Rattle.plain.specs.Members.{Distinct, In}
 use Rattle.definition.specs.State.{State, Kind, variable, merged, element, dense, rowCount, kind, parent, rep}
 use Rattle.facts.specs.Past.{H0, H1, H2, H4, H5, Owner, anActive, anElement}
@@ -71,22 +69,9 @@ module _ (s : State) (fronts nbrs : List (List ℕ)) (end : Ended s fronts nbrs)
       clash : {k : Kind} → k ≡ merged → k ≡ dense → ⊥
       clash p q = let z : _≡_ {A = ℕ} 0 1 = cc in omega arith
 
-  born-bound : (e : ℕ) → e < rowCount (s .graph) → bornAt s e < rowCount (s .graph)
-  unfolding bornAt
-  born-bound e l =
-      let n = rowCount (s .graph) in
-      either (bornAt s e < n) (member e (bornOf s))
-      (λ t. omega (arith, position-is e (bornOf s) t .0, length-within (bornOf s) (upTo n) (end .bornOnce) (λ x h. member-upTo x n (end .bornMade x h .0)), length-countUp 0 n))
-      (λ t. omega (
-        arith,
-        position-le e (bornOf s),
-        length-within (e ∷ bornOf s) (upTo n) (t, end .bornOnce)
-            (λ x h. or-elim (In x (upTo n)) (member-either x e (bornOf s) h) (λ q. rw q (member-upTo e n l)) (λ q. member-upTo x n (end .bornMade x q .0))),
-        length-countUp 0 n,
-      ))
-
   pub grown : Grown (s .graph) (bornAt s)
+  unfolding bornAt
   grown = record {
     above = λ e p l q r. let m = end .bornMade p (end .bornParent e p l q r) in (m .0, m .1, end .h2 .later e p l q r);
-    bounded = λ e l q. born-bound e l;
+    bounded = λ e l q. position-below-bound (rowCount (s .graph)) (bornOf s) (end .bornOnce) (λ x m. end .bornMade x m .0) e l;
   }

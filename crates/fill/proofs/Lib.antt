@@ -14,3 +14,6 @@ pub mod Contiguous
 pub mod Fronts
 pub mod Computed
 pub mod Expected
+pub mod Discharged
+pub mod Arranged
+pub mod Certain

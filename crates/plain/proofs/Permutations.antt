@@ -8,9 +8,9 @@ use lib.ListN.{getD}
 use Rattle.plain.specs.Lists.{upTo, position}
 use Rattle.plain.specs.Members.{In, Distinct}
 use Rattle.plain.specs.Permutations.{Permutation}
-use Rattle.plain.proofs.Members.{member-upTo, upTo-below}
-use Rattle.plain.proofs.Repeats.{distinct-countUp, length-countUp, within-back}
-use Rattle.plain.proofs.Positions.{member-getD, position-is, position-getD, getD-counted}
+use Rattle.plain.proofs.Members.{member-upTo, upTo-below, map-was}
+use Rattle.plain.proofs.Repeats.{distinct-countUp, distinct-map, length-countUp, within-back}
+use Rattle.plain.proofs.Positions.{member-getD, position-is, position-getD, getD-counted, length-counted}
 
 module _ (n : ℕ) (xs : List ℕ) (p : Permutation n xs) where
   pub permutation-has : (v : ℕ) → v < n → In v xs
@@ -46,6 +46,14 @@ module _ (n : ℕ) (xs : List ℕ) (p : Permutation n xs) where
 
   pub of-inverse : (v : ℕ) → v < n → getD xs (getD positions v 0) 0 ≡ v
   of-inverse v h = ap (λ (k : ℕ). getD xs k 0) (positions-at v h) ∙ at-position-of v h
+
+  pub positions-permutation : Permutation n positions
+  positions-permutation = record {
+    size = length-counted (λ v. position v xs) 0 n;
+    below = λ k m. let r = map-was (λ v. position v xs) k (upTo n) m in rw (r .2) (position-below (r .0) (upTo-below (r .0) n (r .1)));
+    once = distinct-map (λ v. position v xs) (upTo n) (distinct-countUp 0 n)
+        (λ x y mx my e. sym (at-position-of x (upTo-below x n mx)) ∙ ap (λ (k : ℕ). getD xs k 0) e ∙ at-position-of y (upTo-below y n my));
+  }
 
 -- ---- a list with each of 0, 1, .., n - 1 once
 

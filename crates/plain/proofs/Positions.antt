@@ -12,7 +12,7 @@ use lib.Seq.{getD-append-add, getD-set-same, set-out, getD-set-other}
 use borrow.Author.Tests.{eqb-true, eqb-false, eq-eqb, ne-eqb, ltb-true, ltb-false}
 use Rattle.plain.proofs.Logic.{either, or-elim, and-left, and-right}
 use Rattle.plain.proofs.Members.{member-first, member-there, no-member, member-either}
-use Rattle.plain.proofs.Repeats.{length-countUp}
+use Rattle.plain.proofs.Repeats.{length-countUp, length-below, length-missing}
 use Rattle.plain.specs.Lists.{member, position, countUp, every}
 use Rattle.plain.specs.Members.{In, Distinct, All}
 
@@ -122,6 +122,20 @@ set-has P (x ∷ l) zero a zero p q = q refl
 set-has P (x ∷ l) zero a (suc j) p q = p
 set-has P (x ∷ l) (suc i) a zero p q = p
 set-has P (x ∷ l) (suc i) a (suc j) p q = set-has P l i a j p (λ e. q (ap suc e))
+
+-- an entry of the numbers from a on
+pub getD-countUp : (a k i d : ℕ) → i < k → getD (countUp a k) i d ≡ a + i
+unfolding countUp
+getD-countUp a zero i d h = absurd (omega arith)
+getD-countUp a (suc k) zero d h = omega arith
+getD-countUp a (suc k) (suc i) d h = omega (arith, getD-countUp (suc a) k i d (omega arith))
+
+-- a number below n has its place below n in any list of such numbers without repeats, there or not
+pub position-below-bound : (n : ℕ) (xs : List ℕ) → Distinct xs → ((x : ℕ) → In x xs → x < n) → (e : ℕ) → e < n → position e xs < n
+position-below-bound n xs d h e l =
+    either (position e xs < n) (member e xs)
+    (λ t. omega (arith, position-is e xs t .0, length-below n xs d h))
+    (λ t. omega (arith, position-le e xs, length-missing n xs e d h l t))
 
 -- ---- what holds of every element, at a place
 

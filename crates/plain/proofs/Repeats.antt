@@ -5,12 +5,12 @@ use native.Mathlib.Omega.{arith}
 use mathlib.Core.Path.{_≡_, ap, sym, _∙_, refl}
 use mathlib.Core.Logic.{_≢_}
 use mathlib.Core.Bool.{false, Bool, true, not}
-use mathlib.Core.List.{List, [], _∷_, _++_, reverse, reverseAux}
+use mathlib.Core.List.{List, [], _∷_, _++_, map, reverse, reverseAux}
 use lib.Dec.{eqb}
-use lib.ListN.{drop, length}
+use lib.ListN.{drop, length, length-append}
 use borrow.Author.Tests.{eq-eqb}
 use Rattle.plain.proofs.Logic.{either, and-left, and-right, and-both, bool-ext}
-use Rattle.plain.proofs.Members.{member-above, not-kept, member-nil, not-here, member-append, not-cons, not-there, member-here, apart, member-there, no-member, member-cases, member-delete, member-upTo, every-within, within-every}
+use Rattle.plain.proofs.Members.{member-above, not-in, map-was, not-kept, member-nil, not-here, member-append, not-cons, not-there, member-here, apart, member-there, no-member, member-cases, member-delete, member-upTo, every-within, within-every}
 use Rattle.plain.specs.Lists.{countUp, member, consIf, keep, rotate, delete, upTo, sameMembers, every}
 use Rattle.plain.specs.Members.{Distinct, In, Within}
 
@@ -67,6 +67,14 @@ distinct-drop (x ∷ l) (suc j) d = distinct-drop l j (d .1)
 
 -- LL6: a list that loses one is shorter
 
+-- where equal values come of equal numbers
+pub distinct-map : (f : ℕ → ℕ) (xs : List ℕ) → Distinct xs → ((x y : ℕ) → In x xs → In y xs → f x ≡ f y → x ≡ y) → Distinct (map f xs)
+distinct-map f [] d h = tt
+distinct-map f (x ∷ xs) d h = (
+  not-in (f x) (map f xs) (λ m. let r = map-was f (f x) xs m in apart x (r .0) xs (d .0) (r .1) (h x (r .0) (member-here x xs) (member-there (r .0) x xs (r .1)) (r .2))),
+  distinct-map f xs (d .1) (λ y z my mz e. h y z (member-there y x xs my) (member-there z x xs mz) e),
+)
+
 pub length-keep : (p : ℕ → Bool) (xs : List ℕ) → length (keep p xs) ≤ length xs
 unfolding keep
 length-keep p [] = omega arith
@@ -87,6 +95,11 @@ length-dropped p (x ∷ xs) y h k =
     go : (b : Bool) → length (keep p xs) < length xs → length (consIf b x (keep p xs)) < suc (length xs)
     go true l = omega arith
     go false l = omega arith
+
+pub length-rotate : (xs : List ℕ) → length (rotate xs) ≡ length xs
+unfolding rotate
+length-rotate [] = refl
+length-rotate (x ∷ xs) = omega (arith, length-append xs (x ∷ []))
 
 pub length-countUp : (a k : ℕ) → length (countUp a k) ≡ k
 unfolding countUp

@@ -1,0 +1,72 @@
+-- "Every float operation needed is exact on this domain": `t² <= multiplier² · n`, in floats, says that t is at most where the threshold starts from.
+-- For t and n up to any N with N² and 16,000,000 · N below 2 ^ 53, so that every product has at most 53 binary digits. Two million is such an N.
+-- Assumes nothing.
+use Prim.Native.Nat.{ℕ, _+_, _*_, _^_, _≤_, _<_}
+use native.Mathlib.Nat.{lt-of-le-of-lt, mul-one, mul-comm, mul-le-mul}
+use native.Mathlib.Decide.{decLe}
+use native.Mathlib.Omega.{arith}
+use mathlib.Core.Path.{_≡_, refl, ap, _∙_}
+use mathlib.Core.Bool.{false}
+use lib.Dec.{leb, lit<, lit≤}
+use lib.IntN.{pos}
+use lib.Ieee.{Float, binary64, mul, le, ofInt}
+use lib.Ieee.Exact.{HasValue}
+use borrow.Author.Tests.{leb-true, le-leb}
+use Rattle.plain.proofs.Logic.{bool-ext}
+use Rattle.definition.specs.Threshold.{multiplier, quartersOf, start}
+use Rattle.definition.proofs.Root.{IsStart, start-is}
+use Rattle.numbers.proofs.Exact.{mul-exact, int-exact, le-is}
+use Rattle.numbers.proofs.Rules.{Quartered}
+
+-- `t * t` and `x * x * n`
+abbrev pub square : ℕ → Float
+square t = mul binary64 (ofInt binary64 (pos t)) (ofInt binary64 (pos t))
+
+abbrev pub product : Float → ℕ → Float
+product x n = mul binary64 (mul binary64 x x) (ofInt binary64 (pos n))
+
+squares : (s t : ℕ) → s ≤ t → s * s ≤ t * t
+squares s t h = mul-le-mul h h
+
+-- 16 · t² at most q² · n exactly up to the start
+up-to-start : (x : Float) (n s t : ℕ) → IsStart x n s → leb (16 * (t * t)) (quartersOf x * quartersOf x * n) ≡ leb t s
+up-to-start x n s t h =
+    let Q = quartersOf x * quartersOf x * n in
+    bool-ext (leb (16 * (t * t)) Q) (leb t s)
+    (λ e. le-leb t s (below (leb-true (16 * (t * t)) Q e) (decLe (s + 1) t)))
+    (λ e. le-leb (16 * (t * t)) Q (omega (arith, h .low, squares t s (leb-true t s e))))
+  where
+    below : 16 * (t * t) ≤ quartersOf x * quartersOf x * n → Dec (s + 1 ≤ t) → t ≤ s
+    below l (yes k) = absurd (omega (arith, h .high, squares (s + 1) t k))
+    below l (no k) = omega arith
+
+-- the limit on n that is to come leaves room too
+pub two-million : (2000000 * 2000000 < 2 ^ 53) × (16000000 * 2000000 < 2 ^ 53)
+two-million = (lit< tt, lit< tt)
+
+module _ (N : ℕ) (short : N * N < 2 ^ 53) (long : 16000000 * N < 2 ^ 53) (x : Float) (n : ℕ) (hn : n ≤ N) (Q : Quartered x) where
+  sixteenths : quartersOf x * quartersOf x ≤ 16000000
+  sixteenths = mul-le-mul (Q .bound) (Q .bound)
+
+  product-small : quartersOf x * quartersOf x * n < 2 ^ 53
+  product-small = lt-of-le-of-lt (mul-le-mul sixteenths hn) long
+
+  product-exact : HasValue (product x n) false (quartersOf x * quartersOf x * n) 16
+  product-exact =
+      let q = quartersOf x in
+      mul-exact false (mul binary64 x x) (ofInt binary64 (pos n)) (q * q) 16 n 1 4 (lit< tt) (lit< tt) refl (lit≤ tt) product-small
+      (mul-exact (Q .sign) x x q 4 q 4 4 (lit< tt) (lit< tt) refl (lit≤ tt) (lt-of-le-of-lt sixteenths (lit< tt)) (Q .value) (Q .value))
+      (int-exact n (omega arith))
+
+  square-exact : (t : ℕ) → t ≤ N → HasValue (square t) false (t * t) 1
+  square-exact t h =
+      let v = int-exact t (omega arith) in
+      mul-exact false (ofInt binary64 (pos t)) (ofInt binary64 (pos t)) t 1 t 1 0 (lit< tt) (lit< tt) refl (lit≤ tt) (lt-of-le-of-lt (mul-le-mul h h) short) v v
+
+  pub within-start : (t : ℕ) → t ≤ N → le (square t) (product x n) ≡ leb t (start (multiplier x) n)
+  within-start t h =
+      let q = quartersOf x in
+      le-is (square t) (product x n) (t * t) 1 (q * q * n) 16 (lit< tt) (lit< tt) (square-exact t h) product-exact
+      ∙ ap (λ (z : ℕ). leb z (q * q * n * 1)) (mul-comm (t * t) 16)
+      ∙ ap (λ (z : ℕ). leb (16 * (t * t)) z) (mul-one (q * q * n))
+      ∙ up-to-start x n (start (multiplier x) n) t (start-is x n (omega (arith, product-small)))

@@ -1,0 +1,79 @@
+-- The totals stay below g · N² where g pivots are gone and no element has more than N rows: so `Small`, which `with_element` asks, holds all along.
+-- Assumes nothing.
+use Prim.Native.Nat.{ℕ, zero, suc, _+_, _*_, _^_, _≤_}
+use native.Mathlib.Nat.{le-refl, mul-le-mul, suc-mul, add-mul}
+use native.Mathlib.Omega.{arith}
+use mathlib.Core.List.{List, [], _∷_}
+use Rattle.plain.specs.Lists.{total, itself, fallTo}
+use Rattle.plain.proofs.Falling.{square, square-mono, fall-sum, fall-squares}
+use Rattle.definition.specs.Statistics.{gainQ, gainS, gainLdl}
+use Rattle.definition.specs.Outcome as Outcomes
+use Rattle.numbers.specs.declared.Statistics.{Statistics}
+use Rattle.numbers.specs.Meaning.{statisticsMeant}
+use Rattle.numbers.specs.Gains.{begun, gained, Small}
+
+-- ---- what one element adds
+
+own-square : (x : ℕ) → x ≤ x * x
+own-square zero = le-refl 0
+own-square (suc x) = omega (arith, suc-mul x (suc x))
+
+squares-above : (xs : List ℕ) → total itself xs ≤ total square xs
+unfolding total
+squares-above [] = le-refl 0
+squares-above (x ∷ xs) = omega (arith, own-square x, squares-above xs)
+
+squares-below : (N r f : ℕ) → r + f ≤ N → total square (fallTo r f) ≤ f * (N * N)
+unfolding total fallTo
+squares-below N r zero h = omega arith
+squares-below N r (suc f) h = omega (arith, squares-below N r f (omega arith), square-mono (r + f) N (omega arith), suc-mul f (N * N))
+
+module _ (N f r : ℕ) (h : f + r ≤ N) where
+  gain-lu : gainS f r ≤ f * (N * N)
+  unfolding gainS
+  gain-lu = omega (arith, squares-below N r f (omega arith), fall-squares r f)
+
+  gain-lnz : gainQ f r ≤ gainS f r
+  unfolding gainQ gainS
+  gain-lnz = omega (arith, squares-above (fallTo r f), fall-sum r f, fall-squares r f)
+
+  gain-ldl : gainLdl f r ≤ f * (N * N)
+  unfolding gainLdl
+  gain-ldl = omega (arith, gain-lu, gain-lnz)
+
+-- ---- what all add
+
+pub record Within (N g : ℕ) (x : Outcomes.Statistics) : Type 0 where
+  pub below-lnz : x .lnz ≤ g * (N * N)
+  pub below-div : x .nDiv ≤ g * (N * N)
+  pub below-ldl : x .nMultSubsLdl ≤ g * (N * N)
+  pub below-lu : x .nMultSubsLu ≤ g * (N * N)
+
+pub within-begun : (N nd : ℕ) → Within N 0 (begun nd)
+unfolding begun
+within-begun N nd = record { below-lnz = omega arith; below-div = omega arith; below-ldl = omega arith; below-lu = omega arith }
+
+pub within-gained : (N g f r : ℕ) (x : Outcomes.Statistics) → f + r ≤ N → Within N g x → Within N (g + f) (gained f r x)
+unfolding gained
+within-gained N g f r x h w =
+    let e = add-mul g f (N * N) in
+    let a = gain-lnz N f r h in
+    let b = gain-lu N f r h in
+    let c = gain-ldl N f r h in
+    record {
+      below-lnz = omega (arith, w .below-lnz);
+      below-div = omega (arith, w .below-div);
+      below-ldl = omega (arith, w .below-ldl);
+      below-lu = omega (arith, w .below-lu);
+    }
+
+pub within-small : (N g : ℕ) (s : Statistics) → g ≤ N → N * (N * N) ≤ 2 ^ 62 → Within N g (statisticsMeant s) → Small s
+unfolding statisticsMeant
+within-small N g s h k w =
+    let m : g * (N * N) ≤ N * (N * N) = mul-le-mul h (le-refl (N * N)) in
+    record {
+      small-lnz = omega (arith, w .below-lnz);
+      small-div = omega (arith, w .below-div);
+      small-ldl = omega (arith, w .below-ldl);
+      small-lu = omega (arith, w .below-lu);
+    }
