@@ -1,23 +1,45 @@
--- A loop that fills a list from the front.
+-- A loop that fills a list from its end.
 -- Assumes nothing.
-use Prim.Native.Nat.{ℕ, zero, suc, _+_, _<_}
-use native.Mathlib.Nat.{not-suc-le-zero, le-of-suc-le-suc}
-use native.Mathlib.Numerals.{add-one}
-use mathlib.Core.Path.{_≡_, refl, sym, ap, subst}
+use Prim.Native.Nat.{ℕ, zero, suc, _-_, _<_, _≤_}
+use native.Mathlib.Omega.{arith}
+use mathlib.Core.Path.{_≡_, refl, sym, ap, _∙_}
 use mathlib.Core.List.{List, [], _∷_, _++_}
-use lib.ListN.{length, set, drop, replicate}
+use lib.ListN.{length, set, take, replicate}
+use lib.Seq.{take-length}
 
 module _ {X : Type 0} (v : X) where
-  fill-suc : (n : ℕ) (d : List X) → n < length d → set (replicate n v ++ drop n d) n v ≡ replicate (suc n) v ++ drop (suc n) d
-  fill-suc n [] l = absurd (not-suc-le-zero l)
-  fill-suc zero (x ∷ d) l = refl
-  fill-suc (suc n) (x ∷ d) l = ap (λ (t : List X). v ∷ t) (fill-suc n d (le-of-suc-le-suc l))
+  -- the first j elements of d, and v for each of the others
+  abbrev pub filled : List X → ℕ → List X
+  filled d j = take j d ++ replicate (length d - j) v
+
+  fill-one : (d : List X) (k m : ℕ) → k < length d → set (take (suc k) d ++ replicate m v) k v ≡ take k d ++ replicate (suc m) v
+  fill-one [] k m h = absurd (omega arith)
+  fill-one (x ∷ d) zero m h = refl
+  fill-one (x ∷ d) (suc k) m h = ap (λ (t : List X). x ∷ t) (fill-one d k m (omega arith))
+
+  fill-at : (d : List X) (j k m : ℕ) → j ≡ suc k → suc m ≡ length d - k → j ≤ length d → set (filled d j) k v ≡ filled d k
+  fill-at d j k m e f h =
+      let g : length d - j ≡ m = omega arith in
+      rw (g, e, ← f) (fill-one d k m (omega arith))
 
   -- one more store
-  pub fill-more : (n : ℕ) (d : List X) → n < length d → set (replicate n v ++ drop n d) n v ≡ replicate (n + 1) v ++ drop (n + 1) d
-  fill-more n d l = subst (λ (k : ℕ). set (replicate n v ++ drop n d) n v ≡ replicate k v ++ drop k d) (sym (add-one n)) (fill-suc n d l)
+  pub fill-more : (d l : List X) (j : ℕ) → 0 < j → j ≤ length d → l ≡ filled d j → set l (j - 1) v ≡ filled d (j - 1)
+  fill-more d l j a h e =
+      ap (λ (t : List X). set t (j - 1) v) e ∙ fill-at d j (j - 1) (length d - j) (omega arith) (omega arith) h
 
-  -- all of them
-  pub fill-all : (d : List X) → replicate (length d) v ++ drop (length d) d ≡ replicate (length d) v
-  fill-all [] = refl
-  fill-all (x ∷ d) = ap (λ (t : List X). v ∷ t) (fill-all d)
+  nothing-more : (d : List X) → d ++ [] ≡ d
+  nothing-more [] = refl
+  nothing-more (x ∷ d) = ap (λ (t : List X). x ∷ t) (nothing-more d)
+
+  -- before the first
+  pub fill-none : (d : List X) → d ≡ filled d (length d)
+  fill-none d =
+      let e : length d - length d ≡ 0 = omega arith in
+      rw (e, take-length d) (sym (nothing-more d))
+
+  -- after the last
+  pub fill-all : (d l : List X) (j : ℕ) → j ≤ 0 → l ≡ filled d j → l ≡ replicate (length d) v
+  fill-all d l j h e =
+      let z : j ≡ 0 = omega arith in
+      let f : length d - 0 ≡ length d = omega arith in
+      e ∙ ap (filled d) z ∙ ap (λ (k : ℕ). replicate k v) f

@@ -8,3 +8,5 @@ pub mod Words
 pub mod Steps
 pub mod Filling
 pub mod Coding
+pub mod Segments
+pub mod Whole

@@ -1,21 +1,19 @@
 -- A number of the machine goes through its bits: what a test below 0 says, what a cast gives where it fails, and what an operation on two of them is.
 -- Assumes nothing.
-use Prim.Native.Nat.{ℕ, zero, suc, _+_, _-_, _<_, _≤_, _^_}
+use Prim.Native.Nat.{ℕ, _<_, _≤_, _^_}
 use native.Mathlib.Omega.{arith}
 use mathlib.Core.Path.{_≡_, refl, sym, ap, subst, _∙_}
-use mathlib.Core.Bool.{Bool, true, false, true≢false, false≢true}
-use mathlib.Core.List.{List, [], _∷_, _++_}
-use mathlib.Core.Option.{Option, none, some}
-use borrow.Author.Tests.{ltb-true, ltb-false, lt-ltb, le-ltb}
-use lib.Dec.{T, ltb}
-use lib.IntN.{ℤ, pos, negsuc, natAbs, _-ℤ_}
+use mathlib.Core.Bool.{Bool, true, false, true≢false}
+use mathlib.Core.List.{List}
+use borrow.Author.Tests.{ltb-true}
+use lib.Dec.{T}
+use lib.IntN.{ℤ, pos, negsuc, natAbs}
 use lib.Signed.{mag, ltZ, nonNeg}
-use lib.ListN.{getD}
-use mir.Syntax.{Width, w64}
-use mir.Val.{toZ, ofZ, SFits, hbits}
+use lib.ListN.{length, getD, List·getD-eq-default}
+use mir.Syntax.{Width}
+use mir.Val.{toZ, ofZ, hbits}
 use mir.Facts.{toZ-ofZ}
-use Rattle.cells.specs.View.{nat, at}
-use Rattle.cells.specs.Links.{flipped, coded, decoded, named, linked}
+use Rattle.cells.specs.View.{nat, at, negative}
 
 sign : (z : ℤ) → ltZ z (pos 0) ≡ false → T (nonNeg z) × (natAbs z ≡ nat z)
 sign (pos n) e = (tt, refl)
@@ -56,3 +54,13 @@ module _ (w : Width) (l : List ℤ) (i : ℕ) (h : mag (getD l i (pos 0)) < 2 ^ 
   pub at-pos : ltZ (toZ w (ofZ w (getD l i (pos 0)))) (pos 0) ≡ false → Word w (at l i) (toZ w (ofZ w (getD l i (pos 0))))
   unfolding at
   at-pos e = word-pos w (getD l i (pos 0)) h e
+
+-- its sign
+module _ (w : Width) (l : List ℤ) (i : ℕ) where
+  pub negative-read : mag (getD l i (pos 0)) < 2 ^ hbits w → ltZ (toZ w (ofZ w (getD l i (pos 0)))) (pos 0) ≡ negative l i
+  unfolding negative
+  negative-read h = ap (λ (y : ℤ). ltZ y (pos 0)) (back w (getD l i (pos 0)) h)
+
+pub negative-out : (l : List ℤ) (i : ℕ) → length l ≤ i → false ≡ negative l i
+unfolding negative
+negative-out l i h = ap (λ (y : ℤ). ltZ y (pos 0)) (sym (List·getD-eq-default l (pos 0) h))

@@ -3,10 +3,12 @@
 -- gives 0, a store outside does nothing. All are shut: whoever reasons about memory uses the laws of `proofs/`, and never the list or the layout.
 -- Assumes nothing.
 use Prim.Native.Nat.{ℕ, _+_, _-_, _*_, _^_, _≤_}
+use mathlib.Core.Path.{_≡_}
 use mathlib.Core.Bool.{Bool, cond}
 use mathlib.Core.List.{List}
 use lib.Dec.{ltb, leb, eqb}
 use lib.IntN.{ℤ, pos, negsuc}
+use lib.Signed.{ltZ}
 use lib.ListN.{length, getD, set}
 
 -- the number of a cell: a negative one counts as 0
@@ -22,7 +24,7 @@ at l i = nat (getD l i (pos 0))
 unfoldable pub wr : List ℤ → ℕ → ℕ → List ℤ
 wr l i v = set l i (pos v)
 
--- ---- the scratch: the fields of `Layout`
+-- ---- the scratch: `Layout` names its fields and says what each holds in which phase
 
 -- the cell of field f at i
 unfoldable pub place : ℕ → ℕ → ℕ → ℕ
@@ -57,3 +59,13 @@ spare n s = length s - (16 * n + 16)
 -- the sum of two numbers, or the largest number that a cell holds
 unfoldable pub plus : ℕ → ℕ → ℕ
 plus a b = cond (ltb (a + b) (2 ^ 63)) (a + b) (2 ^ 63 - 1)
+
+-- ---- where the sign counts: the pattern as it is lent, and the outputs
+
+-- cell i is below 0
+unfoldable pub negative : List ℤ → ℕ → Bool
+negative l i = ltZ (getD l i (pos 0)) (pos 0)
+
+-- cell i is the number v, and not a negative one
+pub record Holds (l : List ℤ) (i v : ℕ) : Type 0 where
+  pub is : getD l i (pos 0) ≡ pos v

@@ -1,15 +1,15 @@
 // The memory of the ordering: cells of lent slices, read and written as unsigned numbers. The Rust's vectors are fields of the one scratch slice; where each
 // lies is known here alone. A read outside gives 0 and a store outside does nothing, so no caller has to show an index. The null link is n.
 ghost use mathlib.Core.Path.{_≡_};
-ghost use Prim.Native.Nat.{_+_, _-_, _*_, _<_, _≤_, _^_};
-ghost use lib.ListN.{length, replicate, getD};
+ghost use Prim.Native.Nat.{_-_, _<_, _≤_, _^_};
+ghost use lib.ListN.{length, replicate};
 ghost use lib.IntN.{pos};
 ghost use lib.Signed.{mag};
-ghost use Rattle.cells.specs.View.{at, wr, rd, up, Room, plus};
+ghost use Rattle.cells.specs.View.{at, wr, rd, up, Room, plus, negative};
 ghost use Rattle.cells.specs.Links.{flipped, coded, decoded, named, linked, parent, hang};
 
 // No parent, as the Rust has it.
-pub const EMPTY: i64 = -1;
+const EMPTY: i64 = -1;
 
 // Fields of a node: `rd`, `up`.
 pub const PE: usize = 0;
@@ -61,6 +61,9 @@ pub const SEQ: usize = 11;
 
 pub const OFFSET: usize = 12;
 
+// A field of a node used after it.
+pub const OWNER: usize = 5;
+
 // ---- a cell of the list space
 
 // The number in cell `i`, which is there; a negative one counts as 0.
@@ -109,10 +112,10 @@ pub fn copy_cell(l: &mut [i64], p: usize, e: usize)
 pub fn clear(l: &mut [i64])
     ensures { λ _. ⌜ now (l .exit) ≡ replicate (length (now (l .entry))) (pos 0) ⌝ }
 {
-    let mut i = 0;
-    while i < l.len() {
-        l[i] = 0;
-        i += 1;
+    let mut left = l.len();
+    while 0 < left {
+        left -= 1;
+        l[left] = 0;
     }
 }
 
@@ -244,6 +247,15 @@ pub fn put_parent(s: &mut [i64], n: usize, i: usize, p: usize)
 
 // ---- slices of 32-bit numbers
 
+// The number in place `i`, which is there; a negative one counts as 0.
+fn load32(l: &[i32], i: usize) -> usize
+    requires { ⌜ i < length (now l) ⌝ }
+    ensures { λ r. ⌜ (r ≡ at (now (l .entry)) i) × (r < 2 ^ 31) ⌝ }
+{
+    let x = l[i];
+    if x < 0 { 0 } else { x as usize }
+}
+
 // Number `i` of the slice; a negative one counts as 0, and so does one past the end.
 pub fn row_at(rows: &[i32], i: usize) -> usize
     ensures { λ r. ⌜ (r ≡ at (now (rows .entry)) i) × (r < 2 ^ 31) ⌝ }
@@ -251,12 +263,11 @@ pub fn row_at(rows: &[i32], i: usize) -> usize
     if i < rows.len() { load32(rows, i) } else { 0 }
 }
 
-fn load32(l: &[i32], i: usize) -> usize
-    requires { ⌜ i < length (now l) ⌝ }
-    ensures { λ r. ⌜ (r ≡ at (now (l .entry)) i) × (r < 2 ^ 31) ⌝ }
+// Is number `i` of the slice below 0?
+pub fn negative(rows: &[i32], i: usize) -> bool
+    ensures { λ r. ⌜ r ≡ negative (now (rows .entry)) i ⌝ }
 {
-    let x = l[i];
-    if x < 0 { 0 } else { x as usize }
+    if i < rows.len() { rows[i] < 0 } else { false }
 }
 
 // Number `i` of the slice becomes `v`; nothing is done past the end.

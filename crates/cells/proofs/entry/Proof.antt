@@ -1,4 +1,5 @@
 -- `cells::entry` meets its contract. Assumes nothing.
+use native.Mathlib.Omega.{arith}
 use Rattle.cells.proofs.Steps.{entry-read, entry-none}
 use borrow.Author.Needs.{needs}
 use Rattle.cells.proofs.entry.Statement.{statement}
@@ -20,10 +21,10 @@ load-requires : tie.Need-load-requires
 load-requires c κs = search needs
 
 returns : tie.Need-returns
-returns c = search (needs, entry-read)
+returns c = (entry-read _ _ _ _ (c .load .ensures .0), c .load .ensures .1)
 
 returns-2 : tie.Need-returns-2
-returns-2 c = search (needs, entry-none)
+returns-2 c = (entry-none _ _ _ (c .before .pre .room) (c .if1 .left), omega arith)
 
 pub entry-spec : {M : Type 1} → statement M
 entry-spec =

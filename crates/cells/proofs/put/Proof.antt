@@ -18,10 +18,10 @@ same-length : tie.Need-same-length
 same-length c = search needs
 
 returns : tie.Need-returns
-returns c = search (needs, table-store, still-room)
+returns c = (table-store _ _ _ _ _ _ (c .before .store .ensures) (c .before .before .before .before .pre .0) (c .before .before .before .before .pre .1) (c .before .before .before .if1 .taken), still-room _ _ _ (c .before .store .kept .0) (c .before .before .before .before .pre .2))
 
 returns-2 : tie.Need-returns-2
-returns-2 c = search (needs, null-store)
+returns-2 c = (null-store _ _ _ _ _ (c .before .pre .1) (c .if1 .left), c .before .pre .2)
 
 pub put-spec : {M : Type 1} → statement M
 put-spec = tie.close (tie.spec mul-store add-store store-requires same-length returns returns-2)

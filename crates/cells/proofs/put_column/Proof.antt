@@ -17,10 +17,10 @@ same-length : tie.Need-same-length
 same-length c = search needs
 
 returns : tie.Need-returns
-returns c = search (needs, column-store, still-room)
+returns c = (column-store _ _ _ _ _ (c .before .store .ensures) (c .before .before .before .if1 .taken), still-room _ _ _ (c .before .store .kept .0) (c .before .before .before .before .pre .0))
 
 returns-2 : tie.Need-returns-2
-returns-2 c = search (needs, column-nowhere)
+returns-2 c = (column-nowhere _ _ _ _ (c .if1 .left), c .before .pre .0)
 
 pub put-column-spec : {M : Type 1} → statement M
 put-column-spec =

@@ -23,10 +23,10 @@ same-length : tie.Need-same-length
 same-length c = search needs
 
 returns : tie.Need-returns
-returns c = search (needs, entry-store, still-room)
+returns c = (entry-store _ _ _ _ _ (c .before .store .ensures), still-room _ _ _ (c .before .store .kept .0) (c .before .before .before .before .pre .0))
 
 returns-2 : tie.Need-returns-2
-returns-2 c = search (needs, entry-nowhere)
+returns-2 c = (entry-nowhere _ _ _ _ (c .before .pre .0 .room) (c .if1 .left), c .before .pre .0)
 
 pub put-entry-spec : {M : Type 1} → statement M
 put-entry-spec =
