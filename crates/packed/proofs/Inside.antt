@@ -7,6 +7,7 @@ use mathlib.Core.List.{List, []}
 use mathlib.Core.Logic.{_≢_, inl, inr, ⊎-elim}
 use mathlib.Core.Path.{_∙_, _≡_, ap, refl, sym}
 use lib.Dec.{eqb}
+use lib.Ieee.{fits, le}
 use lib.IntN.{ℤ}
 use lib.ListN.{length, length-map}
 use Rattle.plain.proofs.Entries.{entries-same}

@@ -20,3 +20,4 @@ pub mod Settling
 pub mod Outside
 pub mod Inside
 pub mod Keeping
+pub mod Agreement

@@ -9,6 +9,7 @@ use mathlib.Core.Logic.{_≢_, _⊎_, inl, inr, ⊎-elim}
 use mathlib.Core.Path.{_∙_, _≡_, ap, refl, subst⁻¹, sym}
 use borrow.Author.Tests.{lt-ltb}
 use lib.Dec.{eqb}
+use lib.Ieee.{fits}
 use lib.IntN.{ℤ}
 use lib.ListN.{List·getD-eq-default, getD, length, length-append, length-map}
 use Rattle.plain.proofs.Entries.{entries-same, upd-other, upd-same}

@@ -38,9 +38,9 @@ entries-parts X c (e ∷ es) =
     ∙ ap (λ (l : List ℕ). l ++ entriesOf (readParts X (suc c + length (X e)) es)) (entries-list (suc c) (X e))
     ∙ ap (λ (l : List ℕ). X e ++ l) (entries-parts X (suc c + length (X e)) es)
 
-pub read-entries : (X : ℕ → List ℕ) (es vs : List ℕ) → entriesOf (readAll X es vs) ≡ flatMap X es ++ vs
+pub all-entries : (X : ℕ → List ℕ) (es vs : List ℕ) → entriesOf (readAll X es vs) ≡ flatMap X es ++ vs
 unfolding readAll
-read-entries X es vs =
+all-entries X es vs =
     map-append (λ (a : Read). a .entry) (readParts X 0 es) (readList (afterParts X 0 es) vs)
     ∙ ap (λ (l : List ℕ). l ++ entriesOf (readList (afterParts X 0 es) vs)) (entries-parts X 0 es)
     ∙ ap (λ (l : List ℕ). flatMap X es ++ l) (entries-list (afterParts X 0 es) vs)
@@ -70,4 +70,4 @@ picked-firsts p xs =
 
 -- the new element's list
 pub picked-new : (p : ℕ → Bool) (X : ℕ → List ℕ) (es vs : List ℕ) → entriesOf (picked p (readAll X es vs)) ≡ firsts p (flatMap X es ++ vs)
-picked-new p X es vs = picked-firsts p (readAll X es vs) ∙ ap (firsts p) (read-entries X es vs)
+picked-new p X es vs = picked-firsts p (readAll X es vs) ∙ ap (firsts p) (all-entries X es vs)
