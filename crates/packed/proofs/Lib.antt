@@ -21,3 +21,5 @@ pub mod Outside
 pub mod Inside
 pub mod Keeping
 pub mod Agreement
+pub mod Beginning
+pub mod Example
