@@ -21,7 +21,7 @@ foldl-append f b (x ∷ xs) ys = foldl-append f (f b x) xs ys
 pub after-is : (X : ℕ → List ℕ) (c : ℕ) (es : List ℕ) → afterParts X c es ≡ c + length es + total (λ e. length (X e)) es
 unfolding afterParts total
 after-is X c [] = omega arith
-after-is X c (e ∷ es) = after-is X (suc c + length (X e)) es ∙ omega arith
+after-is X c (e ∷ es) = after-is X _ es ∙ omega arith
 
 -- ---- what is read
 
