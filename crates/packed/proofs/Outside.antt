@@ -27,7 +27,7 @@ use Rattle.cells.specs.Links.{parent}
 use Rattle.cells.specs.View.{at, plus, rd, up}
 use Rattle.packed.specs.Gather.{Cleared, Outside, allLengths, cleared, collectedRest, droppedAll, gatheredOutside, madeRoom, settled, summed}
 use Rattle.packed.specs.Model.{entered, laid, packedAll}
-use Rattle.packed.specs.Places.{Space, places, sumTo}
+use Rattle.packed.specs.Places.{Owns, Space, places, sumTo}
 use Rattle.packed.specs.Reading.{afterParts, entriesOf, picked, readAll, sofarOf}
 use Rattle.packed.specs.Tray.{taking, tookAll}
 use Rattle.packed.proofs.Collection.{collected}
@@ -46,6 +46,9 @@ use Rattle.packed.specs.declared.Tray.{Tray}
 pub record Gathered (n : ℕ) (X : ℕ → List ℕ) (l s : List ℤ) (made base lim me : ℕ) (es : List ℕ) (q : List Read) (m : Outside) : Type 0 where
   pub space : Space n (upd (except X es []) me (entriesOf q)) (m .lists) (m .mem) (suc made) (m .made .base) (m .made .free)
   pub place : rd n PE (m .mem) me ≡ m .made .start
+  -- nobody else stands there, or behind
+  pub others : (i c : ℕ) → i ≢ me → Owns (places n (m .mem)) i c → c < m .made .start
+  pub wide : m .made .base ≤ m .made .start
   pub count : m .made .count ≡ length q
   pub free : m .made .free ≡ m .made .start + length q
   pub turns : m .made .made ≡ suc made
@@ -213,6 +216,8 @@ module _ (n : ℕ) (X : ℕ → List ℕ) (l s : List ℤ) (made base lim : ℕ)
             record {
               space = rw (p, ← new-length) (space-renamed n (upd Y me new) _ _ (suc made) (c .ends .base) (c .ends .end + length new) (stands .space) (upd (except X es []) me new) (left-as new));
               place = stands .place;
+              others = stands .others;
+              wide = stands .wide;
               count = u;
               free = p;
               turns = plus-sum made 1 (omega arith) ∙ omega arith;

@@ -19,7 +19,7 @@ use Rattle.cells.specs.Links.{parent}
 use Rattle.cells.specs.View.{Room, rd, up}
 use Rattle.packed.specs.Gather.{Cleared}
 use Rattle.packed.specs.Model.{entered, laid}
-use Rattle.packed.specs.Places.{Space}
+use Rattle.packed.specs.Places.{Owns, Space, places}
 use Rattle.packed.proofs.Frame.{ends}
 use Rattle.packed.proofs.Newcomer.{entered-mem, laid-there}
 use Rattle.packed.specs.declared.Tray.{Tray}
@@ -40,6 +40,9 @@ pub record Ready (n : ℕ) (Y : ℕ → List ℕ) (l s : List ℤ) (made k : ℕ
 pub record Settled (n : ℕ) (Y : ℕ → List ℕ) (l s : List ℤ) (made me start base : ℕ) (x : List ℕ) (l′ s′ : List ℤ) : Type 0 where
   pub space : Space n (upd Y me x) l′ s′ (suc made) base (start + length x)
   pub long : length l′ ≡ length l
+  -- nobody else stands there, or behind
+  pub others : (i q : ℕ) → i ≢ me → Owns (places n s′) i q → q < start
+  pub wide : base ≤ start
   pub place : rd n PE s′ me ≡ start
   pub order : (t : ℕ) → t ≢ made → rd n ORD s′ t ≡ rd n ORD s t
   pub last : rd n ORD s′ made ≡ me
@@ -61,6 +64,11 @@ settled-there n Y l s made me x c hm ht fresh tab h =
     record {
       space = entered-as n (upd Y me (entries (rd n TMP a) 0 k)) (upd Y me x) _ _ _ _ _ (ap (upd Y me) same) g;
       long = laid-there n a e k (c .lists) (omega (arith, h .long, h .fits)) .long ∙ h .long;
+      others = λ i q d o.
+          let u : rd n PE (up n ORD (up n LEN (up n PE a me e) me k) made me) i ≡ rd n PE a i = simp mem in
+          let v : rd n LEN (up n ORD (up n LEN (up n PE a me e) me k) made me) i ≡ rd n LEN a i = simp mem in
+          omega (arith, h .space .lists .under i q (record { from = omega (arith, u, o .from); to = omega (arith, u, v, o .to) }), h .behind);
+      wide = omega (arith, h .space .sorted .wide, h .behind);
       place = simp (mem, room-yes n a r, lt-ltb me n hm);
       order = λ t d. let u : made ≢ t = λ y. d (sym y) in let v : rd n ORD (up n ORD (up n LEN (up n PE a me e) me k) made me) t ≡ rd n ORD a t = simp mem in v ∙ h .fields ORD t refl;
       last = simp (mem, room-yes n a r, lt-ltb made n ht);

@@ -1,13 +1,12 @@
 -- A gather as the code does it: the lists that are read are freed, room is made, and the new list is stored.
 -- Assumes nothing.
-use Prim.Native.Nat.{_+_, _-_, ℕ}
+use Prim.Native.Nat.{_+_, _-_, _<_, _^_, ℕ}
 use mathlib.Core.Bool.{cond}
 use mathlib.Core.List.{List}
 use lib.Dec.{ltb}
 use lib.IntN.{ℤ}
 use lib.ListN.{length}
 use Rattle.plain.specs.Turns.{times}
-use Rattle.definition.specs.Pivot.{collected}
 use Rattle.cells.specs.Layout.{ELEN, LEN, PE}
 use Rattle.cells.specs.View.{at, plus, rd, up, wr}
 use Rattle.packed.specs.Model.{entered, laid, packedAll, packedLow}
@@ -65,6 +64,14 @@ pub record Outside : Type 0 where
 
 abbrev pub outside : List ℤ → List ℤ → Made → Outside
 outside l s r = record { lists = l; mem = s; made = r }
+
+-- each number is small, as the next gather asks
+pub record Brief (r : Made) : Type 0 where
+  pub start : r .start < 2 ^ 63
+  pub count : r .count < 2 ^ 63
+  pub free : r .free < 2 ^ 63
+  pub made : r .made < 2 ^ 63
+  pub collected : r .collected < 2
 
 unfoldable pub summed : Ends → Tray → ℕ → Made
 summed e t made =

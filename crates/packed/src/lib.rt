@@ -7,7 +7,7 @@ ghost use Rattle.cells.specs.Layout.{TMP};
 ghost use Rattle.packed.specs.Places.{places, due};
 ghost use Rattle.packed.specs.Model.{copied, heap, movedOne, movedLow, movedNext, movedNew, packedLow, packedAll, laid, entered};
 ghost use Rattle.packed.specs.Tray.{Small, taking, counted, passedBy, took, tookPart, tookElement, tookElements, ownPart, tookAll};
-ghost use Rattle.packed.specs.Gather.{droppedAt, droppedPart, droppedAll, addedLength, allLengths, cleared, collectedRest, madeRoom, outside, summed, gatheredOutside, inside, gatheredInside, cut, keptOne, keptPart};
+ghost use Rattle.packed.specs.Gather.{droppedAt, droppedPart, droppedAll, addedLength, allLengths, cleared, collectedRest, madeRoom, outside, Brief, summed, gatheredOutside, inside, gatheredInside, cut, keptOne, keptPart};
 
 // The end of the lists that go by number, and the end of all.
 pub struct Ends {
@@ -440,7 +440,7 @@ pub struct Made {
 // The numbers that a gather leaves.
 pub fn summed(ends: Ends, t: Tray, made: usize) -> Made
     requires { ⌜ Small t × (ends .end < 2 ^ 63) × (made < 2 ^ 63) ⌝ }
-    ensures { λ r. ⌜ r ≡ summed ends t made ⌝ }
+    ensures { λ r. ⌜ (r ≡ summed ends t made) × Brief r ⌝ }
 {
     let free = cells::plus(ends.end, t.cnt);
     let more = cells::plus(made, 1);
@@ -467,7 +467,7 @@ pub fn gather_outside(
     made: usize,
 ) -> Made
     requires { ⌜ Room n (now s) × (me < 2 ^ 63) × (lim < 2 ^ 63) × (made < 2 ^ 63) ⌝ }
-    ensures { λ r. ⌜ (outside (now (lists .exit)) (now (s .exit)) r ≡ gatheredOutside n me base lim made (now (lists .entry)) (now (s .entry))) × Room n (now (s .exit)) ⌝ }
+    ensures { λ r. ⌜ (outside (now (lists .exit)) (now (s .exit)) r ≡ gatheredOutside n me base lim made (now (lists .entry)) (now (s .entry))) × Room n (now (s .exit)) × Brief r ⌝ }
 {
     let quota = cells::less(lists.len(), lim);
     let t = take_all(lists, s, n, me, quota);
