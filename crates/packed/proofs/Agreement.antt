@@ -1,17 +1,19 @@
 -- The gather against the definition: what is read, what is collected, and definition C: whether a collection happens, and where the free end is then.
 -- Assumes nothing.
-use Prim.Native.Nat.{_+_, _-_, _<_, _≤_, suc, ℕ}
+use Prim.Native.Nat.{_+_, _-_, _<_, _^_, _≤_, suc, ℕ}
 use native.Mathlib.Omega.{arith}
 use mathlib.Core.Bool.{Bool, _&&_, _||_, cond, false, not, true}
-use mathlib.Core.List.{List, [], _++_, _∷_, append-assoc, append-nil, foldl, map-append}
-use mathlib.Core.Logic.{⊎-elim}
+use mathlib.Core.List.{List, [], _++_, _∷_, append-assoc, append-nil, flatMap, foldl, map-append}
+use mathlib.Core.Logic.{_≢_, ⊎-elim}
 use mathlib.Core.Path.{_∙_, _≡_, ap, refl, sym}
 use lib.Dec.{eqb}
+use lib.Ieee.{fits}
 use lib.IntN.{ℤ}
 use lib.ListN.{getD, length, length-map}
 use Rattle.plain.proofs.Members.{member-here, member-there}
 use Rattle.plain.specs.Lists.{consIf, member}
-use Rattle.plain.specs.Members.{In}
+use Rattle.plain.specs.Members.{Distinct, In}
+use Rattle.plain.specs.Turns.{firsts}
 use Rattle.definition.specs.Pivot.{candidates, collectOne, collected, wanted}
 use Rattle.definition.specs.Room.{Read, Room, allPlaces, readElements, readList, reads, shrunk, stored}
 use Rattle.definition.specs.State.{Graph, elementsOf, hasWeight, variablesOf}
@@ -19,12 +21,15 @@ use Rattle.facts.proofs.Collections.{stored-collected, stored-none, stored-one}
 use Rattle.facts.proofs.Reading.{read-entries, taken-entries}
 use Rattle.facts.specs.Reading.{taken, takenAt}
 use Rattle.cells.proofs.Slices.{split}
-use Rattle.cells.specs.View.{at}
-use Rattle.packed.specs.Gather.{Outside, inside}
-use Rattle.packed.specs.Places.{sumTo}
+use Rattle.cells.specs.Layout.{ELEN, ORD}
+use Rattle.cells.specs.View.{at, rd}
+use Rattle.packed.specs.Gather.{Outside, gatheredOutside, inside}
+use Rattle.packed.specs.Places.{Space, sumTo}
 use Rattle.packed.specs.Reading.{afterParts, entriesOf, pickOne, picked, readAll, readParts, sofarOf}
 use Rattle.packed.proofs.Objects.{moved}
-use Rattle.packed.proofs.Outside.{Gathered, few}
+use Rattle.packed.proofs.Outside.{Gathered, few, gathered-rep}
+use Rattle.packed.proofs.Picked.{picked-new}
+use Rattle.packed.proofs.Taking.{wants}
 use Rattle.packed.proofs.Waiting.{free}
 
 module _ (g : Graph) (X : ℕ → List ℕ) where
@@ -127,3 +132,37 @@ module _ (g : Graph) (p : ℕ) (X : ℕ → List ℕ) (w : ℕ → Bool) (h : Sh
         let f : stored (length l) g p r .room .free - length (stored (length l) g p r .new) + k ≡ m .made .start + k =
         omega (arith, z .0, o .free, ap length (stored-collected (length l) g p r), gather-length) in
         rw (f, z .1)
+
+-- the new element in its own place, of a pivot without elements
+pub inside-collected : (g : Graph) (p : ℕ) (X : ℕ → List ℕ) (w : ℕ → Bool) → Shows g p X w → elementsOf g p ≡ [] → firsts w (X p) ≡ collected g p
+unfolding flatMap
+inside-collected g p X w h empty =
+    ap (firsts w) (h .own) ∙ ap (λ (es : List ℕ). firsts w (es ++ variablesOf g p)) empty
+    ∙ ap (λ (es : List ℕ). firsts w (flatMap X es ++ variablesOf g p)) (sym empty)
+    ∙ sym (picked-new w X (elementsOf g p) (variablesOf g p)) ∙ gather-collected g p X w h
+
+-- what the code leaves, in the words of the definition
+pub record Agrees (n : ℕ) (g : Graph) (p : ℕ) (X : ℕ → List ℕ) (l s : List ℤ) (made base lim : ℕ) (r : Room) : Type 0 where
+  pub entries : List Read
+  pub new : entriesOf entries ≡ collected g p
+  pub gathered : Gathered n X l s made base lim p (elementsOf g p) entries (gatheredOutside n p base lim made l s)
+  pub after : (stored (length l) g p r .room .free ≡ gatheredOutside n p base lim made l s .made .free)
+      × (stored (length l) g p r .room .collections ≡ r .collections + gatheredOutside n p base lim made l s .made .collected)
+  pub shrinks : (k : ℕ) → shrunk (stored (length l) g p r) k
+      ≡ record { free = gatheredOutside n p base lim made l s .made .start + k; collections = r .collections + gatheredOutside n p base lim made l s .made .collected }
+
+-- THE gather, for the definition
+pub gathered-definition : (n : ℕ) (g : Graph) (p : ℕ) (X : ℕ → List ℕ) (l s : List ℤ) (made base lim : ℕ) (r : Room) → Space n X l s made base lim → n < 2 ^ 63 → length l < 2 ^ 63
+    → Shows g p X (wants n s) → p < n → rd n ELEN s p ≡ length (elementsOf g p) → Distinct (elementsOf g p) → member p (elementsOf g p) ≡ false
+    → ((e : ℕ) → In e (elementsOf g p) → e < n) → made < n → ((t : ℕ) → t < made → rd n ORD s t ≢ p)
+    → sumTo n (λ i. length (X i)) ≡ allPlaces g → allPlaces g + n ≤ length l → r .free ≡ lim → Agrees n g p X l s made base lim r
+gathered-definition n g p X l s made base lim r space small narrow h hp elen once away low turns fresh all room at-lim =
+    let o = gathered-rep n X l s made base lim space small narrow p hp (elementsOf g p) (variablesOf g p) (h .own) elen once away low turns fresh (omega (arith, all)) in
+    let f = few n X l s made base lim space small narrow p hp (elementsOf g p) (variablesOf g p) (h .own) elen once away low in
+    record {
+      entries = picked (wants n s) (readAll X (elementsOf g p) (variablesOf g p));
+      new = gather-collected g p X (wants n s) h;
+      gathered = o;
+      after = gathered-stored g p X (wants n s) h n l s made base lim (gatheredOutside n p base lim made l s) o all (omega (arith, all)) f (space .lists .fits) r at-lim;
+      shrinks = gathered-shrunk g p X (wants n s) h n l s made base lim (gatheredOutside n p base lim made l s) o all (omega (arith, all)) f (space .lists .fits) r at-lim;
+    }
