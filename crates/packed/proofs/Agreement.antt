@@ -7,7 +7,6 @@ use mathlib.Core.List.{List, [], _++_, _∷_, append-assoc, append-nil, flatMap,
 use mathlib.Core.Logic.{_≢_, ⊎-elim}
 use mathlib.Core.Path.{_∙_, _≡_, ap, refl, sym}
 use lib.Dec.{eqb}
-use lib.Ieee.{fits}
 use lib.IntN.{ℤ}
 use lib.ListN.{getD, length, length-map}
 use Rattle.plain.proofs.Members.{member-here, member-there}
@@ -23,14 +22,12 @@ use Rattle.facts.specs.Reading.{taken, takenAt}
 use Rattle.cells.proofs.Slices.{split}
 use Rattle.cells.specs.Layout.{ELEN, ORD}
 use Rattle.cells.specs.View.{at, rd}
-use Rattle.packed.specs.Gather.{Outside, gatheredOutside, inside}
+use Rattle.packed.specs.Gather.{Outside, gatheredOutside}
 use Rattle.packed.specs.Places.{Space, sumTo}
 use Rattle.packed.specs.Reading.{afterParts, entriesOf, pickOne, picked, readAll, readParts, sofarOf}
-use Rattle.packed.proofs.Objects.{moved}
 use Rattle.packed.proofs.Outside.{Gathered, few, gathered-rep}
 use Rattle.packed.proofs.Picked.{picked-new}
 use Rattle.packed.proofs.Taking.{wants}
-use Rattle.packed.proofs.Waiting.{free}
 
 module _ (g : Graph) (X : ℕ → List ℕ) where
   -- the reading of the definition

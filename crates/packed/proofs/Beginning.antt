@@ -4,9 +4,7 @@ use Prim.Native.Nat.{_+_, _<_, _≤_, ℕ}
 use native.Mathlib.Omega.{arith}
 use mathlib.Core.List.{List, []}
 use mathlib.Core.Logic.{_⊎_, inl, inr}
-use mathlib.Core.Option.{none}
 use mathlib.Core.Path.{_≡_}
-use lib.Ieee.{fits}
 use lib.IntN.{ℤ}
 use lib.ListN.{length}
 use Rattle.plain.proofs.Entries.{entries-none}
@@ -14,7 +12,7 @@ use Rattle.plain.specs.Turns.{entries}
 use Rattle.cells.proofs.Fields.{rd-null}
 use Rattle.cells.proofs.Slices.{split}
 use Rattle.cells.specs.Layout.{LEN, PE}
-use Rattle.cells.specs.View.{Room, at, place, rd}
+use Rattle.cells.specs.View.{Room, at, rd}
 use Rattle.packed.specs.Places.{Owns, Space, places, sumTo}
 use Rattle.packed.proofs.Packing.{live-below}
 use Rattle.packed.proofs.Spaces.{space-start}

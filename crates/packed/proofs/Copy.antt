@@ -5,7 +5,6 @@ use native.Mathlib.Omega.{arith}
 use mathlib.Core.List.{List}
 use mathlib.Core.Logic.{_⊎_, inl, inr, ⊎-elim}
 use mathlib.Core.Path.{_∙_, _≡_, refl, subst⁻¹}
-use lib.Ieee.{le}
 use lib.IntN.{ℤ}
 use lib.ListN.{length}
 use Rattle.plain.specs.Turns.{times}

@@ -5,15 +5,12 @@ use mathlib.Core.List.{List, [], _++_, _∷_, map}
 use mathlib.Core.Path.{_≡_, refl}
 use lib.IntN.{pos, ℤ}
 use lib.ListN.{replicate}
-use Rattle.plain.specs.Members.{count}
 use Rattle.plain.specs.Turns.{times}
 use Rattle.cells.specs.View.{at, place, plus, rd, up, within, wr}
 use Rattle.packed.specs.Gather.{addedLength, allLengths, collectedRest, droppedAll, droppedAt, droppedPart, gatheredOutside, madeRoom, settled, summed}
 use Rattle.packed.specs.Model.{copied, entered, laid, movedDown, movedLow, movedNew, movedNext, movedOne, packedAll, packedLow}
 use Rattle.packed.specs.Places.{due}
 use Rattle.packed.specs.Tray.{counted, ownPart, passedBy, took, tookAll, tookElement, tookElements, tookOwn, tookPart}
-use Rattle.packed.proofs.Collection.{collected}
-use Rattle.packed.proofs.Waiting.{free}
 use Rattle.packed.specs.declared.Made.{Made}
 
 -- of each object its place, its length, whether it is wanted, and how many elements its list begins with

@@ -6,15 +6,11 @@ use mathlib.Core.Path.{_≡_, ap}
 use borrow.Author.Tests.{le-ltb, lt-ltb}
 use lib.IntN.{ℤ}
 use lib.ListN.{length}
-use Rattle.plain.specs.Members.{count}
-use Rattle.cells.proofs.Laws.{mem}
 use Rattle.cells.specs.Layout.{ELEN, LEN, PE}
 use Rattle.cells.specs.View.{at, plus, rd, up, wr}
 use Rattle.packed.specs.Gather.{Cleared, addedLength, allLengths, cleared, collectedRest, cut, droppedAll, droppedAt, droppedPart, gatheredInside, gatheredOutside, inside, keptOne, madeRoom, outside, replaced, settled, summed}
 use Rattle.packed.specs.Model.{Heap, entered, heap, laid, packedAll, packedLow}
 use Rattle.packed.specs.Tray.{emptyTray, taking, tookAll, tookPart}
-use Rattle.packed.proofs.Collection.{collected}
-use Rattle.packed.proofs.Waiting.{free}
 use Rattle.packed.specs.declared.Tray.{Tray}
 use Rattle.packed.specs.declared.Ends.{Ends}
 use Rattle.packed.specs.declared.Made.{Made}

@@ -7,14 +7,13 @@ use mathlib.Core.List.{List, []}
 use mathlib.Core.Logic.{_≢_, inl, inr, ⊎-elim}
 use mathlib.Core.Path.{_∙_, _≡_, ap, refl, sym}
 use lib.Dec.{eqb}
-use lib.Ieee.{fits, le}
 use lib.IntN.{ℤ}
 use lib.ListN.{length, length-map}
 use Rattle.plain.proofs.Entries.{entries-same}
 use Rattle.plain.proofs.Firsts.{length-firsts}
 use Rattle.plain.specs.Turns.{entries, firsts, upd}
 use Rattle.definition.specs.Room.{Read, readList}
-use Rattle.cells.proofs.Laws.{mem, parent-up-field, rd-up-cell, rd-up-field}
+use Rattle.cells.proofs.Laws.{parent-up-field, rd-up-cell, rd-up-field}
 use Rattle.cells.proofs.Slices.{split}
 use Rattle.cells.specs.Layout.{LEN, ORD, PE, TMP, WANT}
 use Rattle.cells.specs.Links.{parent}

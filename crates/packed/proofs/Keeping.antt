@@ -8,7 +8,6 @@ use mathlib.Core.Logic.{_⊎_, inl, inr, ⊎-elim}
 use mathlib.Core.Path.{_∙_, _≡_, ap, refl, subst, sym}
 use borrow.Author.Tests.{le-ltb, lt-ltb}
 use lib.Dec.{ltb}
-use lib.Ieee.{fits}
 use lib.IntN.{ℤ}
 use lib.ListN.{length, length-append}
 use Rattle.plain.proofs.Entries.{entries-none, entries-same, entries-snoc}

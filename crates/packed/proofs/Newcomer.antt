@@ -7,7 +7,6 @@ use mathlib.Core.List.{List}
 use mathlib.Core.Logic.{_≢_, _⊎_, inl, inr, ⊎-elim}
 use mathlib.Core.Path.{_∙_, _≡_, refl, subst⁻¹, sym}
 use borrow.Author.Tests.{lt-ltb}
-use lib.Ieee.{le}
 use lib.IntN.{ℤ}
 use lib.ListN.{length}
 use Rattle.plain.proofs.Entries.{entries-same}

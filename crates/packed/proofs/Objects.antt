@@ -6,7 +6,6 @@ use mathlib.Core.List.{List, []}
 use mathlib.Core.Logic.{_≢_, _⊎_, inl, inr, ⊎-elim}
 use mathlib.Core.Path.{_∙_, _≡_, ap, refl, subst⁻¹, sym}
 use borrow.Author.Tests.{lt-ltb}
-use lib.Ieee.{fits}
 use lib.IntN.{ℤ}
 use lib.ListN.{length, set}
 use Rattle.plain.proofs.Entries.{entries-none, entries-same, entries-set, upd-other, upd-same}

@@ -9,7 +9,6 @@ use mathlib.Core.Logic.{_≢_, _⊎_, inl, inr, ⊎-elim}
 use mathlib.Core.Path.{_∙_, _≡_, ap, refl, subst⁻¹, sym}
 use borrow.Author.Tests.{lt-ltb}
 use lib.Dec.{eqb}
-use lib.Ieee.{fits}
 use lib.IntN.{ℤ}
 use lib.ListN.{List·getD-eq-default, getD, length, length-append, length-map}
 use Rattle.plain.proofs.Entries.{entries-same, upd-other, upd-same}
@@ -20,7 +19,6 @@ use Rattle.plain.specs.Lists.{member, total}
 use Rattle.plain.specs.Members.{Distinct, In}
 use Rattle.plain.specs.Turns.{entries, firsts, upd}
 use Rattle.definition.specs.Room.{Read}
-use Rattle.cells.proofs.Laws.{mem}
 use Rattle.cells.proofs.Slices.{plus-sum, same?, split}
 use Rattle.cells.specs.Layout.{ELEN, LEN, ORD, PE, TMP, WANT}
 use Rattle.cells.specs.Links.{parent}
@@ -32,7 +30,7 @@ use Rattle.packed.specs.Reading.{afterParts, entriesOf, picked, readAll,
 use Rattle.packed.specs.Tray.{taking, tookAll}
 use Rattle.packed.proofs.Collection.{collected}
 use Rattle.packed.proofs.Dropping.{Dropped, dropped-all, dropped-fold, except, lengths-sum, space-fold, sum-without}
-use Rattle.packed.proofs.Frame.{ends, len-of}
+use Rattle.packed.proofs.Frame.{len-of}
 use Rattle.packed.proofs.Gathers.{room-no-step, room-yes-step}
 use Rattle.packed.proofs.Picked.{after-is, picked-new}
 use Rattle.packed.proofs.Readings.{first-part, holds-all}

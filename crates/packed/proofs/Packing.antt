@@ -8,7 +8,6 @@ use mathlib.Core.Logic.{_≢_, ⊎-elim}
 use mathlib.Core.Path.{_∙_, _≡_, refl, subst, sym}
 use borrow.Author.Tests.{lt-ltb}
 use lib.Dec.{eqb}
-use lib.Ieee.{le}
 use lib.IntN.{ℤ}
 use lib.ListN.{length}
 use Rattle.plain.specs.Turns.{times}

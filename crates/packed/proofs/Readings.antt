@@ -11,7 +11,6 @@ use Rattle.plain.proofs.Entries.{entries-drop, entries-none, entries-take}
 use Rattle.plain.proofs.Turns.{times-fold}
 use Rattle.plain.specs.Turns.{entries}
 use Rattle.definition.specs.Room.{Read, readList}
-use Rattle.cells.proofs.Laws.{mem}
 use Rattle.cells.proofs.Slices.{plus-sum}
 use Rattle.cells.specs.Layout.{ELEN, LEN, PE}
 use Rattle.cells.specs.View.{Room, at, plus, rd}

@@ -11,16 +11,14 @@ use lib.Dec.{eqb}
 use lib.IntN.{ℤ}
 use lib.ListN.{length}
 use Rattle.plain.proofs.Entries.{entries-same}
-use Rattle.plain.specs.Members.{same}
 use Rattle.plain.specs.Turns.{entries, upd}
 use Rattle.cells.proofs.Laws.{mem, rd-up-field, room-yes}
-use Rattle.cells.specs.Layout.{LEN, ORD, PE, TMP, W}
+use Rattle.cells.specs.Layout.{LEN, ORD, PE, TMP}
 use Rattle.cells.specs.Links.{parent}
 use Rattle.cells.specs.View.{Room, rd, up}
 use Rattle.packed.specs.Gather.{Cleared}
 use Rattle.packed.specs.Model.{entered, laid}
 use Rattle.packed.specs.Places.{Owns, Space, places}
-use Rattle.packed.proofs.Frame.{ends}
 use Rattle.packed.proofs.Newcomer.{entered-mem, laid-there}
 use Rattle.packed.specs.declared.Tray.{Tray}
 use Rattle.packed.specs.declared.Ends.{Ends}

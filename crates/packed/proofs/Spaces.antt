@@ -8,7 +8,6 @@ use mathlib.Core.Logic.{_≢_, _⊎_, inl, inr, ⊎-elim}
 use mathlib.Core.Path.{_≡_, ap, refl, sym}
 use borrow.Author.Tests.{lt-ltb}
 use lib.Dec.{eqb}
-use lib.Ieee.{fits}
 use lib.IntN.{ℤ}
 use lib.ListN.{length, set}
 use Rattle.plain.proofs.Entries.{entries-none}

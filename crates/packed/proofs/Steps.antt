@@ -5,7 +5,6 @@ use mathlib.Core.List.{List}
 use mathlib.Core.Path.{_≡_, ap}
 use borrow.Author.Tests.{le-ltb, lt-ltb}
 use lib.IntN.{ℤ}
-use Rattle.cells.proofs.Laws.{mem}
 use Rattle.cells.specs.Layout.{LEN, ORD, PE, TMP}
 use Rattle.cells.specs.View.{plus, rd, up, wr}
 use Rattle.packed.specs.Model.{Heap, copied, entered, heap, movedDown, movedLow, movedNew, movedNext, movedOne, packedAll, packedLow}

@@ -6,7 +6,6 @@ use mathlib.Core.Logic.{_≢_}
 use mathlib.Core.Path.{_≡_}
 use borrow.Author.Tests.{eq-eqb, le-ltb, lt-ltb, ne-eqb}
 use lib.IntN.{ℤ}
-use Rattle.definition.specs.Room.{reads}
 use Rattle.cells.specs.Layout.{ELEN, LEN, PE, TMP, WANT}
 use Rattle.cells.specs.View.{at, plus, rd, up}
 use Rattle.packed.specs.Tray.{Taking, counted, emptyTray, ownPart, passedBy, taking, took, tookAll, tookElement, tookElements, tookOwn, tookPart}
