@@ -14,13 +14,10 @@ use Rattle.plain.specs.Members.{Distinct, Within}
 use Rattle.definition.specs.State.{Graph, weight, elementsOf, variablesOf, degree}
 use Rattle.definition.specs.Pivot.{collected, passed}
 use Rattle.definition.specs.Trim.{external}
+use Rattle.facts.specs.Counter.{sharing, met}
 use Rattle.facts.proofs.Collected.{collected-var, distinct-collected}
 use Rattle.facts.proofs.Rows.{same-passed}
 use Rattle.facts.specs.Invariant.{Var, Live, Quotient}
-
--- the weight of a variable as far as it has e
-abbrev pub sharing : Graph → ℕ → ℕ → ℕ
-sharing g e i = cond (member e (elementsOf g i)) (weight g i) 0
 
 -- a sum over an element's list, part by part: within a list without repeats, and outside it
 pub split-members : (f : ℕ → ℕ) (xs ys : List ℕ) → Distinct xs → Distinct ys
@@ -44,7 +41,7 @@ module _ {n : ℕ} (g : Graph) (p : ℕ) (q : Quotient n g) (pv : Var g p) (e : 
   external-before = rw (same-passed g p .weights, same-passed g p .variables)
 
   -- F6
-  pub counter : total (sharing g e) (collected g p) + external (passed g p) (collected g p) e ≡ degree g e
+  pub counter : total (sharing g e) (met g p) + external (passed g p) (collected g p) e ≡ degree g e
   counter =
       let a = split-members (weight g) (collected g p) (variablesOf g e) (distinct-collected g p) (q .distinct-members e le) in
       let b = total-members (λ v. cond (member v (variablesOf g e)) (weight g v) 0) (sharing g e) (collected g p)
@@ -52,5 +49,5 @@ module _ {n : ℕ} (g : Graph) (p : ℕ) (q : Quotient n g) (pv : Var g p) (e : 
       omega (arith, a, b, external-before, q .element-weight e le)
 
   -- the counter of a program, which subtracts one after the other, never falls below zero
-  pub counter-part : (xs : List ℕ) → Distinct xs → Within xs (collected g p) → total (sharing g e) xs ≤ degree g e
+  pub counter-part : (xs : List ℕ) → Distinct xs → Within xs (met g p) → total (sharing g e) xs ≤ degree g e
   counter-part xs d w = omega (arith, counter, total-within (sharing g e) xs (collected g p) d (distinct-collected g p) w)

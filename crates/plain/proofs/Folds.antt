@@ -20,6 +20,14 @@ module _ {A : Type 0} where
   all-append P [] ys h k = k
   all-append P (x ∷ xs) ys h k = (h .0, all-append P xs ys (h .1) k)
 
+  pub all-left : (P : A → Type 0) (xs ys : List A) → All P (xs ++ ys) → All P xs
+  all-left P [] ys h = tt
+  all-left P (x ∷ xs) ys h = (h .0, all-left P xs ys (h .1))
+
+  pub all-right : (P : A → Type 0) (xs ys : List A) → All P (xs ++ ys) → All P ys
+  all-right P [] ys h = h
+  all-right P (x ∷ xs) ys h = all-right P xs ys (h .1)
+
   pub all-consIf : (P : A → Type 0) (b : Bool) (x : A) (xs : List A) → (b ≡ true → P x) → All P xs → All P (consIf b x xs)
   all-consIf P true x xs h k = (h refl, k)
   all-consIf P false x xs h k = k
@@ -148,3 +156,17 @@ module _ {A B : Type 0} (f : B → ℕ → B) (look : B → A) where
       join true false = refl
       join false true = refl
       join false false = refl
+
+pub keep-append : (p : ℕ → Bool) (xs ys : List ℕ) → keep p (xs ++ ys) ≡ keep p xs ++ keep p ys
+unfolding keep
+keep-append p [] ys = refl
+keep-append p (x ∷ xs) ys = go (p x) (keep-append p xs ys)
+  where
+    go : (b : Bool) → keep p (xs ++ ys) ≡ keep p xs ++ keep p ys → consIf b x (keep p (xs ++ ys)) ≡ consIf b x (keep p xs) ++ keep p ys
+    go true e = ap (λ (l : List ℕ). x ∷ l) e
+    go false e = e
+
+-- a fold over a list with one element more
+pub foldl-snoc : {A B : Type 0} (f : A → B → A) (m : A) (xs : List B) (x : B) → foldl f m (xs ++ (x ∷ [])) ≡ f (foldl f m xs) x
+foldl-snoc f m [] x = refl
+foldl-snoc f m (y ∷ xs) x = foldl-snoc f (f m y) xs x
