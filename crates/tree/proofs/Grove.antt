@@ -23,7 +23,7 @@ use Rattle.facts.proofs.Chains.{Grown, Placed}
 use Rattle.facts.proofs.Family.{Child, children-in, in-bigLast, roots-in, dense-in, is-merged}
 use Rattle.facts.proofs.Permuted.{perm-length, perm-inside, perm-distinct}
 use Rattle.tree.specs.Final.{Ended}
-use Rattle.tree.proofs.Lists.{flatMap-same, flatMap-flatMap, flatMap-one}
+use Rattle.plain.proofs.Parts.{flatMap-same, flatMap-flatMap, flatMap-one}
 use Rattle.tree.proofs.Prepared.{kin}
 
 nobody : (xs : List ℕ) → ((x : ℕ) → In x xs → ⊥) → xs ≡ []

@@ -24,7 +24,7 @@ use Rattle.cells.specs.Layout.{NV}
 use Rattle.cells.specs.View.{rd}
 use Rattle.tree.specs.Model.{LARGEST, above, largestOf, classOf}
 use Rattle.tree.proofs.Largest.{lastBig}
-use Rattle.tree.proofs.Lists.{keep-keep, keep-one, keep-none}
+use Rattle.plain.proofs.Parts.{keep-keep, keep-one, keep-none}
 use Rattle.tree.proofs.Ready.{Placing, Ready}
 use Rattle.tree.proofs.Threads.{chosen}
 

@@ -20,7 +20,7 @@ use Rattle.cells.specs.Layout.{NV, ELEN}
 use Rattle.cells.specs.Links.{parent}
 use Rattle.cells.specs.View.{rd, up, Room}
 use Rattle.tree.specs.Model.{FIRST, LARGEST, above, blankOne, blanked, asLarge, measuredUnder, measuredOne, measured}
-use Rattle.tree.proofs.Lists.{keep-last}
+use Rattle.plain.proofs.Parts.{keep-last}
 
 -- ---- blank
 

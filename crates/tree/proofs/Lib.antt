@@ -3,7 +3,6 @@ pub mod Steps
 pub mod Sheet
 pub mod Touring
 pub mod Threads
-pub mod Lists
 pub mod Largest
 pub mod Owners
 pub mod Ready

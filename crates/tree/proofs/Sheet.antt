@@ -31,11 +31,6 @@ pub record Sheet (n : ℕ) (out : List ℕ) (o : Sheets) : Type 0 where
   pub row : (k : ℕ) → k < length out → Holds (o .permutation) k (getD out k 0)
   pub place : (k : ℕ) → k < length out → Holds (o .inverse) (getD out k 0) k
 
--- what stands in the middle of a list without repeats does not stand before
-pub middle-new : (xs : List ℕ) (v : ℕ) (ys : List ℕ) → Distinct (xs ++ (v ∷ ys)) → member v xs ≡ false
-middle-new [] v ys d = member-nil v
-middle-new (x ∷ xs) v ys d = not-cons v x xs (λ e. apart x v (xs ++ (v ∷ ys)) (d .0) (member-right v xs (v ∷ ys) (member-here v ys)) (sym e)) (middle-new xs v ys (d .1))
-
 last-or : (k m : ℕ) → k < suc m → (k < m) ⊎ (k ≡ m)
 last-or k m h = either ((k < m) ⊎ (k ≡ m)) (ltb k m) (λ t. inl (ltb-true k m t)) (λ t. let a = ltb-false k m t in inr (omega arith))
 

@@ -13,6 +13,7 @@ use lib.ListN.{length, length-append}
 use borrow.Author.Tests.{lt-ltb, le-ltb, ltb-true, ltb-false}
 use Rattle.plain.proofs.Folds.{flatMap-append}
 use Rattle.plain.proofs.Logic.{cond-has}
+use Rattle.plain.proofs.Parts.{middle-new}
 use Rattle.plain.proofs.Turns.{times-keeps}
 use Rattle.plain.specs.Lists.{member}
 use Rattle.plain.specs.Members.{Distinct}
@@ -25,7 +26,7 @@ use Rattle.cells.specs.Layout.{SIBLING, STACK}
 use Rattle.cells.specs.View.{rd, up, Room, plus}
 use Rattle.tree.specs.Hanging.{Chain, Hanging}
 use Rattle.tree.specs.Model.{FIRST, Sheets, placed, Tour, deeper, top, higher, entered, leftBehind, stepped, begun, walked}
-use Rattle.tree.proofs.Sheet.{Sheet, middle-new, sheet-more}
+use Rattle.tree.proofs.Sheet.{Sheet, sheet-more}
 
 -- a row of the stack, with the rows behind it in its list
 pub record Frame : Type 0 where

@@ -1,4 +1,4 @@
--- Laws of plain lists that the tree needs: parts that pass a test, and lists joined.
+-- Parts of a list that pass a test, and lists joined.
 -- Assumes nothing.
 use Prim.Native.Nat.{ℕ, suc, _+_, _<_}
 use native.Mathlib.Omega.{arith}
@@ -9,21 +9,12 @@ use mathlib.Core.Bool.{Bool, true, false, not, _&&_}
 use mathlib.Core.List.{List, [], _∷_, _++_, flatMap, append-assoc, append-nil}
 use lib.Dec.{eqb}
 use borrow.Author.Tests.{eqb-true, eqb-false, eq-eqb, ne-eqb}
-use Rattle.plain.proofs.Folds.{flatMap-append}
+use Rattle.plain.proofs.Folds.{flatMap-append, keep-append}
 use Rattle.plain.proofs.Logic.{either}
-use Rattle.plain.proofs.Members.{member-here, member-there, member-either, not-kept-at, apart, no-member}
+use Rattle.plain.proofs.Members.{member-here, member-there, member-either, apart, no-member, member-nil, not-cons, member-right}
 use Rattle.plain.proofs.Sums.{countUp-snoc}
 use Rattle.plain.specs.Lists.{member, keep, consIf, countUp, upTo, delete}
 use Rattle.plain.specs.Members.{In, Distinct}
-
-consIf-append : (b : Bool) (x : ℕ) (xs ys : List ℕ) → consIf b x xs ++ ys ≡ consIf b x (xs ++ ys)
-consIf-append true x xs ys = refl
-consIf-append false x xs ys = refl
-
-pub keep-append : (p : ℕ → Bool) (xs ys : List ℕ) → keep p (xs ++ ys) ≡ keep p xs ++ keep p ys
-unfolding keep
-keep-append p [] ys = refl
-keep-append p (x ∷ xs) ys = ap (consIf (p x) x) (keep-append p xs ys) ∙ sym (consIf-append (p x) x (keep p xs) (keep p ys))
 
 pub keep-last : (p : ℕ → Bool) (k : ℕ) → keep p (upTo (suc k)) ≡ keep p (upTo k) ++ consIf (p k) k []
 unfolding keep
@@ -84,3 +75,9 @@ pub flatMap-one : (xs : List ℕ) → flatMap (λ x. x ∷ []) xs ≡ xs
 unfolding flatMap
 flatMap-one [] = refl
 flatMap-one (x ∷ xs) = ap (λ (l : List ℕ). x ∷ l) (flatMap-one xs)
+
+-- what stands in the middle of a list without repeats does not stand before
+pub middle-new : (xs : List ℕ) (v : ℕ) (ys : List ℕ) → Distinct (xs ++ (v ∷ ys)) → member v xs ≡ false
+middle-new [] v ys d = member-nil v
+middle-new (x ∷ xs) v ys d =
+    not-cons v x xs (λ e. apart x v (xs ++ (v ∷ ys)) (d .0) (member-right v xs (v ∷ ys) (member-here v ys)) (sym e)) (middle-new xs v ys (d .1))
