@@ -1,24 +1,23 @@
 -- A dense row has no parent: so at the start, and every step keeps it. Besides, of the end: what an element weighs, and what a row belongs to.
 -- Assumes nothing.
-use Prim.Native.Nat.{ℕ, zero, suc, _≤_, _<_}
+use Prim.Native.Nat.{ℕ, zero, suc, _<_}
 use native.Mathlib.Omega.{arith}
 use mathlib.Core.Path.{_≡_, refl, sym, ap, _∙_}
-use mathlib.Core.Logic.{_≢_}
-use mathlib.Core.Bool.{Bool, true, false, cond}
+use mathlib.Core.Bool.{Bool, true, false}
 use mathlib.Core.List.{List}
-use mathlib.Core.Option.{none, some}
+use mathlib.Core.Option.{none}
 use lib.Dec.{ltb}
 use lib.ListN.{length}
 use Rattle.plain.proofs.Counting.{same-eq}
-use Rattle.plain.proofs.Logic.{clash, either, none-if}
+use Rattle.plain.proofs.Logic.{clash, none-if}
 use Rattle.plain.proofs.Members.{member-upTo}
 use Rattle.plain.proofs.Positions.{getD-same}
 use Rattle.plain.proofs.Sums.{one-below}
-use Rattle.plain.specs.Lists.{member, upTo}
+use Rattle.plain.specs.Lists.{upTo}
 use Rattle.plain.specs.Members.{same}
-use Rattle.definition.specs.State.{Graph, State, Kind, variable, merged, element, dense, rowCount, kind, weight, elementsOf, parent, rep, isVariable, isElement, isDense, started}
+use Rattle.definition.specs.State.{Graph, State, Kind, variable, merged, element, dense, kind, weight, parent, rep, isVariable, isElement, isDense, started}
 use Rattle.definition.specs.Elimination.{eliminate, step, run, finalState}
-use Rattle.definition.specs.Pivot.{Found, nobody, found, pivot, collected}
+use Rattle.definition.specs.Pivot.{Found, nobody, found, pivot}
 use Rattle.facts.proofs.Belonging.{asElement, dense-apart, dense-outside}
 use Rattle.facts.proofs.Cases.{dense-after, taken-known}
 use Rattle.facts.proofs.Enlisted.{inv-start}
@@ -31,7 +30,7 @@ use Rattle.facts.proofs.Step.{stepped}
 use Rattle.facts.proofs.Stepped.{isTaken, Stepped}
 use Rattle.facts.proofs.Theorem.{inv-step}
 use Rattle.facts.specs.History.{history}
-use Rattle.facts.specs.Invariant.{Var, Inv}
+use Rattle.facts.specs.Invariant.{Inv}
 
 abbrev pub Unparented : ℕ → Graph → Type 0
 Unparented n g = (v : ℕ) → v < n → isDense (kind g v) ≡ true → parent g v ≡ none

@@ -1,19 +1,17 @@
 -- Parts of a list that pass a test, and lists joined.
 -- Assumes nothing.
-use Prim.Native.Nat.{ℕ, suc, _+_, _<_}
-use native.Mathlib.Omega.{arith}
+use Prim.Native.Nat.{ℕ, suc, _+_}
 use native.Mathlib.Nat.{zero-add}
 use mathlib.Core.Path.{_≡_, refl, sym, ap, _∙_}
-use mathlib.Core.Logic.{_≢_, _⊎_, inl, inr}
-use mathlib.Core.Bool.{Bool, true, false, not, _&&_}
-use mathlib.Core.List.{List, [], _∷_, _++_, flatMap, append-assoc, append-nil}
+use mathlib.Core.Logic.{_⊎_, inl, inr}
+use mathlib.Core.Bool.{Bool, true, false, _&&_}
+use mathlib.Core.List.{List, [], _∷_, _++_, flatMap}
 use lib.Dec.{eqb}
-use borrow.Author.Tests.{eqb-true, eqb-false, eq-eqb, ne-eqb}
+use borrow.Author.Tests.{eqb-true, eqb-false, ne-eqb}
 use Rattle.plain.proofs.Folds.{flatMap-append, keep-append}
-use Rattle.plain.proofs.Logic.{either}
 use Rattle.plain.proofs.Members.{member-here, member-there, member-either, apart, no-member, member-nil, not-cons, member-right}
 use Rattle.plain.proofs.Sums.{countUp-snoc}
-use Rattle.plain.specs.Lists.{member, keep, consIf, countUp, upTo, delete}
+use Rattle.plain.specs.Lists.{member, keep, consIf, upTo}
 use Rattle.plain.specs.Members.{In, Distinct}
 
 pub keep-last : (p : ℕ → Bool) (k : ℕ) → keep p (upTo (suc k)) ≡ keep p (upTo k) ++ consIf (p k) k []

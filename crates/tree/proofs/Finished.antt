@@ -4,9 +4,8 @@ use Prim.Native.Nat.{ℕ, _<_}
 use mathlib.Core.Path.{_≡_, sym, ap, subst}
 use mathlib.Core.Bool.{Bool}
 use mathlib.Core.List.{List}
-use mathlib.Core.Option.{some}
 use lib.ListN.{length}
-use Rattle.definition.specs.State.{Graph, State, Kind, merged, dense, rowCount, kind, rep, isVariable, isElement}
+use Rattle.definition.specs.State.{Graph, State, rowCount, rep, isVariable, isElement}
 use Rattle.definition.specs.State as state
 use Rattle.definition.specs.Elimination.{finalState}
 use Rattle.facts.proofs.Outcome.{final-rows, final-grown, final-placed, final-shares, final-alone}

@@ -1,18 +1,16 @@
 -- The walk's whole order is the definition's permutation: each element's tree, with the block of each of its elements, then the dense rows.
 -- Assumes nothing.
-use Prim.Native.Nat.{ℕ, zero, suc, _≤_, _<_}
+use Prim.Native.Nat.{ℕ, zero, suc, _<_}
 use native.Mathlib.Omega.{arith}
 use mathlib.Core.Path.{_≡_, refl, sym, ap, _∙_, subst}
-use mathlib.Core.Bool.{Bool, true, false, _&&_, cond}
+use mathlib.Core.Bool.{false, _&&_, cond}
 use mathlib.Core.List.{List, [], _∷_, _++_, flatMap, append-assoc, append-nil}
-use mathlib.Core.Option.{some}
-use lib.Dec.{eqb, ltb}
-use lib.ListN.{length}
+use lib.Dec.{eqb}
 use borrow.Author.Tests.{lt-ltb, le-ltb, eqb-true}
 use Rattle.plain.proofs.Folds.{flatMap-append}
 use Rattle.plain.proofs.Logic.{and-left, and-right}
 use Rattle.plain.proofs.Members.{kept-both, member-here, upTo-below}
-use Rattle.plain.specs.Lists.{keep, upTo}
+use Rattle.plain.specs.Lists.{upTo}
 use Rattle.plain.specs.Members.{In}
 use Rattle.plain.specs.Permutations.{Permutation}
 use Rattle.definition.specs.State.{Graph, Kind, variable, merged, element, dense, rowCount, kind, rep, isElement, isMerged, denseRows}

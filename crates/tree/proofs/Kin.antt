@@ -1,31 +1,28 @@
 -- The rows of each class under each row, as the definition's lists: the other children and the largest, merged rows; under n the roots and the dense rows.
 -- Assumes nothing.
-use Prim.Native.Nat.{ℕ, zero, suc, _+_, _-_, _≤_, _<_}
+use Prim.Native.Nat.{ℕ, _≤_, _<_}
 use native.Mathlib.Omega.{arith}
-use mathlib.Core.Path.{_≡_, refl, sym, ap, _∙_, subst}
-use mathlib.Core.Logic.{_≢_, _⊎_, inl, inr}
+use mathlib.Core.Path.{_≡_, refl, sym, ap, _∙_}
 use mathlib.Core.Bool.{Bool, true, false, _&&_, not, cond}
 use mathlib.Core.List.{List, [], _∷_, _++_, append-assoc}
 use mathlib.Core.Option.{Option, none, some}
-use lib.Dec.{eqb, ltb, leb}
+use lib.Dec.{eqb}
 use lib.IntN.{ℤ}
-use borrow.Author.Tests.{lt-ltb, le-ltb, eq-eqb, ne-eqb, eqb-true, eqb-false}
+use borrow.Author.Tests.{lt-ltb, le-ltb, eq-eqb, ne-eqb, eqb-true}
 use Rattle.plain.proofs.Logic.{eqb-comm}
 use Rattle.plain.proofs.Members.{keep-same, upTo-below, member-here, member-right, no-member}
 use Rattle.plain.proofs.Repeats.{distinct-keep, distinct-countUp}
 use Rattle.plain.specs.Lists.{keep, upTo, delete, isNone}
-use Rattle.plain.specs.Members.{In, Distinct}
+use Rattle.plain.specs.Members.{Distinct}
 use Rattle.definition.specs.State.{Graph, Kind, variable, merged, element, dense, rowCount, kind, rep, isElement, isMerged, isDense, denseRows}
 use Rattle.definition.specs.State as state
 use Rattle.definition.specs.Tree.{isChildOf, sizeOf, childrenOf, roots, biggest, bigLast}
 use Rattle.definition.specs.Ordering.{mergedWith}
 use Rattle.facts.proofs.Family.{in-bigLast}
-use Rattle.cells.specs.Layout.{NV}
-use Rattle.cells.specs.View.{rd}
-use Rattle.tree.specs.Model.{LARGEST, above, largestOf, classOf}
+use Rattle.tree.specs.Model.{above, largestOf, classOf}
 use Rattle.tree.proofs.Largest.{lastBig}
 use Rattle.plain.proofs.Parts.{keep-keep, keep-one, keep-none}
-use Rattle.tree.proofs.Ready.{Placing, Ready}
+use Rattle.tree.proofs.Ready.{Ready}
 use Rattle.tree.proofs.Threads.{chosen}
 
 and-false : (x : Bool) → x && false ≡ false

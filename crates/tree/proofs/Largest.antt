@@ -1,21 +1,20 @@
 -- Nothing hangs anywhere at first; and one pass over the rows finds the last of the largest children of each element (P4).
 -- Assumes nothing.
-use Prim.Native.Nat.{ℕ, zero, suc, _+_, _-_, _≤_, _<_}
+use Prim.Native.Nat.{ℕ, suc, _≤_, _<_}
 use native.Mathlib.Omega.{arith}
-use mathlib.Core.Path.{_≡_, refl, sym, ap, _∙_, subst}
+use mathlib.Core.Path.{_≡_, refl, sym, ap, _∙_}
 use mathlib.Core.Logic.{_≢_, _⊎_, inl, inr}
 use mathlib.Core.Bool.{Bool, true, false, _&&_, cond}
-use mathlib.Core.List.{List, [], _∷_, _++_, foldl, foldl-append, append-nil}
+use mathlib.Core.List.{List, [], _∷_, _++_, foldl-append, append-nil}
 use lib.Dec.{eqb, leb, ltb}
 use lib.IntN.{ℤ}
-use borrow.Author.Tests.{lt-ltb, le-ltb, le-leb, eq-eqb, ne-eqb, eqb-true, eqb-false, ltb-true, ltb-false}
+use borrow.Author.Tests.{lt-ltb, le-ltb, le-leb, eqb-true, eqb-false, ltb-true, ltb-false}
 use Rattle.plain.proofs.Logic.{cond-has, either}
 use Rattle.plain.proofs.Turns.{times-keeps}
 use Rattle.plain.specs.Lists.{keep, consIf, countUp, upTo}
-use Rattle.plain.specs.Turns.{times}
 use Rattle.definition.specs.Tree.{biggest}
 use Rattle.cells.proofs.Fields.{room-up, rd-null, rd-up-same, rd-up-column}
-use Rattle.cells.proofs.Laws.{mem, room-yes, rd-up-hit, rd-up-cell, rd-up-field, column-hit, parent-up-field, roomy-up}
+use Rattle.cells.proofs.Laws.{rd-up-cell, rd-up-field, parent-up-field}
 use Rattle.cells.specs.Layout.{NV, ELEN}
 use Rattle.cells.specs.Links.{parent}
 use Rattle.cells.specs.View.{rd, up, Room}

@@ -1,31 +1,29 @@
 -- P6: going through the merges backwards once, each merged row's parent becomes the element that it belongs to.
 -- Assumes nothing.
-use Prim.Native.Nat.{ℕ, zero, suc, _+_, _-_, _≤_, _<_}
+use Prim.Native.Nat.{ℕ, suc, _+_, _-_, _≤_, _<_}
 use native.Mathlib.Omega.{arith}
 use native.Mathlib.Nat.{zero-add}
 use mathlib.Core.Path.{_≡_, refl, sym, ap, _∙_, subst}
-use mathlib.Core.Logic.{_≢_, _⊎_, inl, inr}
-use mathlib.Core.Bool.{Bool, true, false, cond}
-use mathlib.Core.List.{List, [], _∷_}
-use mathlib.Core.Option.{Option, none, some}
-use lib.Dec.{eqb, ltb}
+use mathlib.Core.Logic.{_≢_}
+use mathlib.Core.Bool.{false, cond}
+use mathlib.Core.List.{List}
+use mathlib.Core.Option.{none, some}
+use lib.Dec.{eqb}
 use lib.IntN.{ℤ}
 use lib.ListN.{length, getD}
-use borrow.Author.Tests.{lt-ltb, eq-eqb, ne-eqb, eqb-true, eqb-false, ltb-true, ltb-false}
+use borrow.Author.Tests.{eq-eqb, ne-eqb, eqb-true, eqb-false}
 use Rattle.plain.proofs.Entries.{entries-at}
-use Rattle.plain.proofs.Logic.{cond-has, either}
+use Rattle.plain.proofs.Logic.{either}
 use Rattle.plain.proofs.Positions.{member-getD, position-is, position-getD}
 use Rattle.plain.proofs.Turns.{times-keeps}
 use Rattle.plain.specs.Lists.{position}
-use Rattle.plain.specs.Members.{In}
-use Rattle.plain.specs.Turns.{times}
 use Rattle.definition.specs.State.{Graph, Kind, variable, merged, element, dense, kind, weight, rep}
 use Rattle.definition.specs.State as state
 use Rattle.definition.specs.Tree.{sizeOf}
 use Rattle.cells.proofs.Laws.{rd-hang-field}
 use Rattle.cells.proofs.Parents.{named-some, room-hang, parent-hang-same, parent-hang-other}
 use Rattle.cells.specs.Layout.{ELEN, MERGES, NV}
-use Rattle.cells.specs.Links.{named, linked, parent, hang}
+use Rattle.cells.specs.Links.{named, parent, hang}
 use Rattle.cells.specs.View.{rd, Room}
 use Rattle.tree.specs.Final.{Final, Ended}
 use Rattle.tree.specs.Model.{above, owned, ownedAll}

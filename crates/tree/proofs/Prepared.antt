@@ -1,15 +1,14 @@
 -- After the three passes: under an element hang its children, the largest last, and behind them its merged rows; under n the roots, and behind them the dense rows.
 -- Assumes nothing.
-use Prim.Native.Nat.{ℕ, _-_, _≤_, _<_}
+use Prim.Native.Nat.{ℕ, _-_, _≤_}
 use native.Mathlib.Omega.{arith}
 use mathlib.Core.Path.{_≡_, refl, sym, ap, _∙_, subst}
-use mathlib.Core.Logic.{_⊎_}
-use mathlib.Core.Bool.{Bool, true, false, _&&_, cond}
-use mathlib.Core.List.{List, [], _∷_, _++_, append-nil}
+use mathlib.Core.Bool.{Bool, true, false, cond}
+use mathlib.Core.List.{List, [], _++_, append-nil}
 use lib.Dec.{eqb, ltb}
 use lib.IntN.{ℤ}
-use borrow.Author.Tests.{lt-ltb, le-ltb, eqb-true, ltb-true, ltb-false}
-use Rattle.plain.proofs.Logic.{and-left, either, or-elim}
+use borrow.Author.Tests.{eqb-true, ltb-true, ltb-false}
+use Rattle.plain.proofs.Logic.{and-left, or-elim}
 use Rattle.plain.proofs.Members.{keep-same, append-either, kept-passes, no-member}
 use Rattle.plain.specs.Lists.{keep, upTo, countUp}
 use Rattle.plain.specs.Members.{In}

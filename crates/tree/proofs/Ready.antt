@@ -1,17 +1,16 @@
 -- Before anything is linked: what each row hangs under, by its kind, and the largest child of each element, as the definition has them.
 -- Assumes nothing.
-use Prim.Native.Nat.{ℕ, zero, suc, _+_, _-_, _≤_, _<_}
+use Prim.Native.Nat.{ℕ, _≤_, _<_}
 use native.Mathlib.Omega.{arith}
-use mathlib.Core.Path.{_≡_, refl, sym, ap, _∙_, subst}
-use mathlib.Core.Logic.{_≢_, _⊎_, inl, inr}
+use mathlib.Core.Path.{_≡_, refl, sym, ap, _∙_}
+use mathlib.Core.Logic.{_≢_}
 use mathlib.Core.Bool.{Bool, true, false, _&&_, cond}
-use mathlib.Core.List.{List, [], _∷_, _++_, foldl}
+use mathlib.Core.List.{List, [], _∷_, foldl}
 use mathlib.Core.Option.{Option, none, some}
 use lib.Dec.{eqb, ltb, leb}
 use lib.IntN.{ℤ}
-use lib.ListN.{length, getD}
-use borrow.Author.Tests.{lt-ltb, eq-eqb, ne-eqb, eqb-true, eqb-false, ltb-true, ltb-false}
-use Rattle.plain.proofs.Logic.{cond-has, either, eqb-comm}
+use borrow.Author.Tests.{lt-ltb, ne-eqb, ltb-true, ltb-false}
+use Rattle.plain.proofs.Logic.{either, eqb-comm}
 use Rattle.plain.proofs.Members.{keep-same, upTo-below, member-here, member-there}
 use Rattle.plain.specs.Lists.{keep, upTo}
 use Rattle.plain.specs.Members.{In}
@@ -19,11 +18,11 @@ use Rattle.definition.specs.State.{Graph, Kind, variable, merged, element, dens
 use Rattle.definition.specs.State as state
 use Rattle.definition.specs.Tree.{isChildOf, sizeOf, childrenOf, biggest}
 use Rattle.facts.proofs.Family.{children-in}
-use Rattle.cells.specs.Layout.{ELEN, NV, SIBLING}
+use Rattle.cells.specs.Layout.{ELEN, NV}
 use Rattle.cells.specs.Links.{parent}
 use Rattle.cells.specs.View.{rd, Room}
 use Rattle.tree.specs.Final.{Ended}
-use Rattle.tree.specs.Hanging.{Chain, Hanging}
+use Rattle.tree.specs.Hanging.{Hanging}
 use Rattle.tree.specs.Model.{FIRST, LARGEST, above, blanked, measured}
 use Rattle.tree.proofs.Largest.{Blank, blanked-all, Measuring, measured-all, lastBig, heavyUnder}
 use Rattle.tree.proofs.Owners.{Owned, above-some, above-none}

@@ -1,29 +1,28 @@
 -- The two outputs while they are written: the first places have their rows, and those rows their places.
 -- Assumes nothing.
-use Prim.Native.Nat.{ℕ, zero, suc, _+_, _≤_, _<_}
+use Prim.Native.Nat.{ℕ, suc, _<_}
 use native.Mathlib.Omega.{arith}
 use native.Mathlib.Nat.{zero-add}
-use mathlib.Core.Path.{_≡_, refl, sym, ap, _∙_}
-use mathlib.Core.Logic.{_≢_, _⊎_, inl, inr}
-use mathlib.Core.Bool.{true, false}
+use mathlib.Core.Path.{_≡_, sym, _∙_}
+use mathlib.Core.Logic.{_⊎_, inl, inr}
+use mathlib.Core.Bool.{false}
 use mathlib.Core.List.{List, [], _∷_, _++_, map}
 use lib.ListN.{length, getD, length-append, List·getD-append}
 use lib.IntN.{ℤ, pos}
 use lib.Seq.{getD-append-seam}
 use lib.Dec.{ltb}
 use borrow.Author.Tests.{lt-ltb, ltb-true, ltb-false}
-use Rattle.plain.proofs.Logic.{either, or-elim}
-use Rattle.plain.proofs.Members.{apart, member-here, member-right, not-cons, member-nil}
+use Rattle.plain.proofs.Logic.{either}
+use Rattle.plain.proofs.Members.{apart}
 use Rattle.plain.proofs.Permutations.{at-position-of, position-below}
 use Rattle.plain.proofs.Positions.{getD-counted, length-counted, member-getD}
 use Rattle.plain.specs.Lists.{member, position, upTo}
-use Rattle.plain.specs.Members.{Distinct, In}
 use Rattle.plain.specs.Permutations.{Permutation}
 use Rattle.definition.specs.Ordering.{inverseOf}
 use Rattle.cells.proofs.Slices.{length-wr}
 use Rattle.cells.proofs.Whole.{holds-wr-same, holds-wr-other, written}
 use Rattle.cells.specs.View.{wr, Holds}
-use Rattle.tree.specs.Model.{Sheets, sheets, placed}
+use Rattle.tree.specs.Model.{Sheets, placed}
 
 pub record Sheet (n : ℕ) (out : List ℕ) (o : Sheets) : Type 0 where
   pub long : length (o .permutation) ≡ n

@@ -1,22 +1,21 @@
 -- One pass over the rows, the last first: each row of the class becomes the first in its list, so the rows of the class come ascending before what was there.
 -- Assumes nothing.
-use Prim.Native.Nat.{ℕ, zero, suc, _+_, _-_, _≤_, _<_}
+use Prim.Native.Nat.{ℕ, suc, _-_, _≤_, _<_}
 use native.Mathlib.Omega.{arith}
 use mathlib.Core.Path.{_≡_, refl, sym, ap, _∙_, subst}
-use mathlib.Core.Logic.{_≢_, _⊎_, inl, inr}
-use mathlib.Core.Bool.{Bool, true, false, _&&_, cond}
+use mathlib.Core.Logic.{_≢_}
+use mathlib.Core.Bool.{Bool, true, false, _&&_}
 use mathlib.Core.List.{List, [], _∷_, _++_}
-use lib.Dec.{eqb, leb}
+use lib.Dec.{eqb}
 use lib.IntN.{ℤ}
 use borrow.Author.Tests.{lt-ltb, le-leb, eq-eqb, ne-eqb, eqb-true, eqb-false}
-use Rattle.plain.proofs.Logic.{cond-has, either, or-elim}
+use Rattle.plain.proofs.Logic.{cond-has, or-elim}
 use Rattle.plain.proofs.Members.{append-either, kept-was, member-above, not-in, not-here, not-there}
 use Rattle.plain.proofs.Turns.{times-keeps}
-use Rattle.plain.specs.Lists.{member, keep, consIf, countUp, upTo}
+use Rattle.plain.specs.Lists.{member, keep, consIf, countUp}
 use Rattle.plain.specs.Members.{In}
-use Rattle.plain.specs.Turns.{times}
 use Rattle.cells.proofs.Fields.{room-up}
-use Rattle.cells.proofs.Laws.{mem, room-yes, rd-up-hit, rd-up-cell, rd-up-field, column-hit, parent-up-field, roomy-up}
+use Rattle.cells.proofs.Laws.{mem, room-yes, rd-up-field, column-hit, parent-up-field, roomy-up}
 use Rattle.cells.specs.Layout.{NV, SIBLING}
 use Rattle.cells.specs.Links.{parent}
 use Rattle.cells.specs.View.{rd, up, Room}

@@ -1,17 +1,16 @@
 -- P3: what is written, then what is still to come from the row that comes next and from the stack, is the whole order at every step; and each step is one less of
 -- what is left, so twice as many steps as there are rows do it.
 -- Assumes nothing.
-use Prim.Native.Nat.{ℕ, zero, suc, _+_, _-_, _*_, _^_, _≤_, _<_}
+use Prim.Native.Nat.{ℕ, suc, _+_, _-_, _*_, _^_, _≤_, _<_}
 use native.Mathlib.Omega.{arith}
 use mathlib.Core.Path.{_≡_, refl, sym, ap, _∙_, subst}
-use mathlib.Core.Logic.{_≢_, _⊎_, inl, inr}
-use mathlib.Core.Bool.{Bool, true, false}
+use mathlib.Core.Logic.{_≢_}
+use mathlib.Core.Bool.{false}
 use mathlib.Core.List.{List, [], _∷_, _++_, flatMap, append-assoc, append-nil}
 use lib.Dec.{ltb, eqb}
 use lib.IntN.{ℤ}
 use lib.ListN.{length, length-append}
-use borrow.Author.Tests.{lt-ltb, le-ltb, ltb-true, ltb-false}
-use Rattle.plain.proofs.Folds.{flatMap-append}
+use borrow.Author.Tests.{lt-ltb, ltb-true, ltb-false}
 use Rattle.plain.proofs.Logic.{cond-has}
 use Rattle.plain.proofs.Parts.{middle-new}
 use Rattle.plain.proofs.Turns.{times-keeps}
@@ -20,12 +19,12 @@ use Rattle.plain.specs.Members.{Distinct}
 use Rattle.plain.specs.Permutations.{Permutation}
 use Rattle.plain.specs.Turns.{times}
 use Rattle.cells.proofs.Fields.{room-up}
-use Rattle.cells.proofs.Laws.{mem, room-yes, rd-up-hit, rd-up-cell, rd-up-field}
+use Rattle.cells.proofs.Laws.{mem, room-yes, rd-up-hit, rd-up-field}
 use Rattle.cells.proofs.Slices.{plus-sum}
 use Rattle.cells.specs.Layout.{SIBLING, STACK}
-use Rattle.cells.specs.View.{rd, up, Room, plus}
+use Rattle.cells.specs.View.{rd, up, Room}
 use Rattle.tree.specs.Hanging.{Chain, Hanging}
-use Rattle.tree.specs.Model.{FIRST, Sheets, placed, Tour, deeper, top, higher, entered, leftBehind, stepped, begun, walked}
+use Rattle.tree.specs.Model.{FIRST, Sheets, Tour, deeper, top, higher, entered, leftBehind, stepped, begun, walked}
 use Rattle.tree.proofs.Sheet.{Sheet, sheet-more}
 
 -- a row of the stack, with the rows behind it in its list

@@ -1,6 +1,6 @@
 -- What the elimination leaves: the memory that belongs to a graph, and what is true of such a graph.
 -- Assumes nothing.
-use Prim.Native.Nat.{ℕ, _≤_, _<_}
+use Prim.Native.Nat.{ℕ, _<_}
 use mathlib.Core.Path.{_≡_}
 use mathlib.Core.List.{List, map}
 use mathlib.Core.Option.{none, some}

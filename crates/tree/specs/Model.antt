@@ -1,7 +1,7 @@
 -- What the code after the elimination does, as functions of the memory: owners of merged rows, the lists of what hangs under each row, and the walk that
 -- writes the permutation and its inverse. The rows without a parent hang under n, which is no row.
 -- Assumes nothing.
-use Prim.Native.Nat.{ℕ, _+_, _-_, _*_, _<_, _^_}
+use Prim.Native.Nat.{ℕ, _-_, _*_, _<_, _^_}
 use mathlib.Core.Bool.{Bool, false, cond}
 use mathlib.Core.List.{List}
 use lib.Dec.{ltb, leb, eqb}
