@@ -11,7 +11,7 @@ rd-requires-2 : tie.Need-rd-requires-2
 rd-requires-2 c κs = search needs
 
 returns : tie.Need-returns
-returns c = search (needs, large-is)
+returns c = large-is _ _ _ _ _ _ (c .before .rd .ensures .0) (c .rd2 .ensures .0)
 
 pub as-large-spec : {M : Type 1} → statement M
 as-large-spec = tie.close (tie.spec rd-requires rd-requires-2 returns)

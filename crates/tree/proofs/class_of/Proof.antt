@@ -14,13 +14,13 @@ largest-of-requires : tie.Need-largest-of-requires
 largest-of-requires c κs = search needs
 
 returns : tie.Need-returns
-returns c = search (needs, class-largest)
+returns c = class-largest _ _ _ _ (c .before .before .before .before .tab .ensures .0) _ (c .before .before .above .ensures .0) (c .before .before .before .if1 .taken) _ (c .before .largest-of .ensures) (c .if2 .taken)
 
 returns-2 : tie.Need-returns-2
-returns-2 c = search (needs, class-other)
+returns-2 c = class-other _ _ _ _ (c .before .before .before .before .tab .ensures .0) _ (c .before .before .above .ensures .0) (c .before .before .before .if1 .taken) _ (c .before .largest-of .ensures) (c .if2 .left)
 
 returns-3 : tie.Need-returns-3
-returns-3 c = search (needs, class-light)
+returns-3 c = class-light _ _ _ _ (c .before .tab .ensures .0) (c .if1 .left)
 
 pub class-of-spec : {M : Type 1} → statement M
 class-of-spec =

@@ -20,13 +20,13 @@ same-length : tie.Need-same-length
 same-length c = search needs
 
 returns : tie.Need-returns
-returns c = search (needs, own-yes)
+returns c = (own-yes _ _ _ _ _ (c .before .before .before .before .before .before .before .before .above .ensures .0) (c .before .before .before .before .before .before .tab .ensures .0) _ _ (c .before .before .before .above2 .ensures .0) (c .before .put-parent .ensures .0) (c .before .before .before .before .before .if1 .taken), c .before .put-parent .ensures .1)
 
 same-length-2 : tie.Need-same-length-2
 same-length-2 c = search needs
 
 returns-2 : tie.Need-returns-2
-returns-2 c = search (needs, own-no)
+returns-2 c = (own-no _ _ _ _ _ (c .before .before .before .above .ensures .0) (c .before .tab .ensures .0) (c .if1 .left), c .before .before .before .before .before .pre)
 
 pub own-one-spec : {M : Type 1} → statement M
 own-one-spec =

@@ -18,7 +18,7 @@ same-length-2 : tie.Need-same-length-2
 same-length-2 c = search needs
 
 returns : tie.Need-returns
-returns c = search (needs, place-yes)
+returns c = place-yes _ _ _ _ _ _ _ (c .before .before .before .before .put32 .ensures) (c .before .put322 .ensures) (c .before .before .before .before .before .before .before .if1 .taken) (c .before .before .before .before .before .before .if2 .taken)
 
 returns-2 : tie.Need-returns-2
 returns-2 c = search (needs, place-row)

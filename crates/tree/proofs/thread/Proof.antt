@@ -35,7 +35,7 @@ loop-less : tie.Need-loop-less Inv-loop μ-loop
 loop-less c = search needs
 
 loop-again : tie.Need-loop-again Inv-loop μ-loop
-loop-again c = search (needs, turn)
+loop-again c = (turn _ _ _ _ (c .before .before .before .before .loop .inv .0) _ (c .before .thread-one .ensures .0), search needs, c .before .thread-one .ensures .1, search needs)
 
 same-length : tie.Need-same-length Inv-loop μ-loop
 same-length c = search needs
