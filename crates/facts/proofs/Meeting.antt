@@ -44,7 +44,7 @@ skip-has k (x ∷ xs) i ne m = go (eqb x k) refl
     go true e = member-cases (member i xs ≡ true) i x xs m (λ q. absurd (ne (q ∙ eqb-true x k e))) (λ nq r. r)
     go false e = m
 
-below-was : (k : ℕ) (xs : List ℕ) (i : ℕ) → member i (below k xs) ≡ true → member i xs ≡ true
+pub below-was : (k : ℕ) (xs : List ℕ) (i : ℕ) → member i (below k xs) ≡ true → member i xs ≡ true
 unfolding below
 below-was k xs i m =
     ap (member i) (sym (leading-trailing (λ x. ltb x k) xs)) ∙ member-append i (leading (λ x. ltb x k) xs) (trailing (λ x. ltb x k) xs)

@@ -88,7 +88,7 @@ twice-triangle x =
     let t : 2 * total itself (fallTo 0 (suc x)) ≡ 2 * (suc x * 0) + x * suc x = twice-fall 0 (suc x) ∙ ap (λ (z : ℕ). 2 * (suc x * 0) + z * suc x) a in
     omega (arith, mul-suc x x)
 
-triangle-both : (xs : List ℕ) → 2 * total triangle xs ≡ total square xs + total itself xs
+pub triangle-both : (xs : List ℕ) → 2 * total triangle xs ≡ total square xs + total itself xs
 unfolding total
 triangle-both [] = refl
 triangle-both (x ∷ xs) = omega (arith, triangle-both xs, twice-triangle x)

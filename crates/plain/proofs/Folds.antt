@@ -156,3 +156,17 @@ module _ {A B : Type 0} (f : B → ℕ → B) (look : B → A) where
       join true false = refl
       join false true = refl
       join false false = refl
+
+pub keep-append : (p : ℕ → Bool) (xs ys : List ℕ) → keep p (xs ++ ys) ≡ keep p xs ++ keep p ys
+unfolding keep
+keep-append p [] ys = refl
+keep-append p (x ∷ xs) ys = go (p x) (keep-append p xs ys)
+  where
+    go : (b : Bool) → keep p (xs ++ ys) ≡ keep p xs ++ keep p ys → consIf b x (keep p (xs ++ ys)) ≡ consIf b x (keep p xs) ++ keep p ys
+    go true e = ap (λ (l : List ℕ). x ∷ l) e
+    go false e = e
+
+-- a fold over a list with one element more
+pub foldl-snoc : {A B : Type 0} (f : A → B → A) (m : A) (xs : List B) (x : B) → foldl f m (xs ++ (x ∷ [])) ≡ f (foldl f m xs) x
+foldl-snoc f m [] x = refl
+foldl-snoc f m (y ∷ xs) x = foldl-snoc f (f m y) xs x

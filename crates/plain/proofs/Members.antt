@@ -287,3 +287,15 @@ pub within-every : (xs ys : List ℕ) → Within xs ys → every (λ x. member x
 unfolding every
 within-every [] ys w = refl
 within-every (z ∷ zs) ys w = rw (w z (member-here z zs), within-every zs ys (within-tail z zs ys w))
+
+-- ---- with one element more
+
+pub member-last : (x : ℕ) (xs : List ℕ) → member x (xs ++ (x ∷ [])) ≡ true
+member-last x xs = member-right x xs (x ∷ []) (member-here x [])
+
+pub member-snoc : (y x : ℕ) (xs : List ℕ) → y ≢ x → member y (xs ++ (x ∷ [])) ≡ member y xs
+member-snoc y x xs ne = member-append y xs (x ∷ []) ∙ ap (λ (b : Bool). member y xs || b) (not-cons y x [] ne (member-nil y)) ∙ or-false (member y xs)
+  where
+    or-false : (b : Bool) → b || false ≡ b
+    or-false true = refl
+    or-false false = refl

@@ -7,14 +7,16 @@ use mathlib.Core.Logic.{_≢_}
 use mathlib.Core.Bool.{Bool, true, cond, false≢true, _&&_}
 use mathlib.Core.List.{List, [], _∷_, _++_, map}
 use lib.Dec.{eqb, ltb}
-use lib.ListN.{getD, length, drop, length-map, replicate, set}
+use lib.ListN.{getD, length, drop, length-append, length-map, replicate, set}
 use lib.Seq.{getD-append-add, getD-set-same, set-out, getD-set-other}
 use borrow.Author.Tests.{eqb-true, eqb-false, eq-eqb, ne-eqb, ltb-true, ltb-false}
+use Rattle.plain.proofs.Entries.{entries-at, entries-length}
 use Rattle.plain.proofs.Logic.{either, or-elim, and-left, and-right}
 use Rattle.plain.proofs.Members.{member-first, member-there, no-member, member-either}
 use Rattle.plain.proofs.Repeats.{length-countUp, length-below, length-missing}
 use Rattle.plain.specs.Lists.{member, position, countUp, every}
 use Rattle.plain.specs.Members.{In, Distinct, All}
+use Rattle.plain.specs.Turns.{entries}
 
 pub member-getD : (xs : List ℕ) (k : ℕ) → k < length xs → In (getD xs k 0) xs
 member-getD [] k h = absurd (omega arith)
@@ -149,3 +151,10 @@ unfolding every
 every-at p [] d h q k = q
 every-at p (x ∷ xs) d h q zero = and-left (p x) (every p xs) h
 every-at p (x ∷ xs) d h q (suc k) = every-at p xs d (and-right (p x) (every p xs) h) q k
+
+pub member-entries : (F : ℕ → ℕ) (p c t : ℕ) → t < c → In (F (p + t)) (entries F p c)
+member-entries F p c t l =
+    ap (λ (x : ℕ). member x (entries F p c)) (sym (entries-at F p c t 0 l)) ∙ member-getD (entries F p c) t (rw (entries-length F p c) l)
+
+pub length-snoc : {A : Type 0} (xs : List A) (x : A) → length (xs ++ (x ∷ [])) ≡ suc (length xs)
+length-snoc xs x = length-append xs (x ∷ []) ∙ omega arith

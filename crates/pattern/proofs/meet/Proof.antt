@@ -1,0 +1,28 @@
+-- `pattern::meet` meets its contract. Assumes nothing.
+use borrow.Author.Needs.{needs}
+use Rattle.pattern.proofs.Steps.{meet-step}
+use Rattle.pattern.proofs.meet.Statement.{statement}
+use Rattle.pattern.proofs.meet.Tie as tie
+
+entry-requires : tie.Need-entry-requires
+entry-requires c κs = search needs
+
+add-pair-requires : tie.Need-add-pair-requires
+add-pair-requires c κs = search needs
+
+pass-requires : tie.Need-pass-requires
+pass-requires c κs = search needs
+
+same-length : tie.Need-same-length
+same-length c = search needs
+
+same-length-2 : tie.Need-same-length-2
+same-length-2 c = search needs
+
+returns : tie.Need-returns
+returns c = search (needs, meet-step)
+
+pub meet-spec : {M : Type 1} → statement M
+meet-spec =
+    tie.close
+    (tie.spec entry-requires add-pair-requires pass-requires same-length same-length-2 returns)

@@ -1,0 +1,24 @@
+-- `pattern::pair_at` meets its contract. Assumes nothing.
+use borrow.Author.Needs.{needs}
+use Rattle.pattern.proofs.Steps.{pair-at-step}
+use Rattle.pattern.proofs.pair_at.Statement.{statement}
+use Rattle.pattern.proofs.pair_at.Tie as tie
+
+entry-requires : tie.Need-entry-requires
+entry-requires c κs = search needs
+
+add-pair-requires : tie.Need-add-pair-requires
+add-pair-requires c κs = search needs
+
+same-length : tie.Need-same-length
+same-length c = search needs
+
+same-length-2 : tie.Need-same-length-2
+same-length-2 c = search needs
+
+returns : tie.Need-returns
+returns c = search (needs, pair-at-step)
+
+pub pair-at-spec : {M : Type 1} → statement M
+pair-at-spec =
+    tie.close (tie.spec entry-requires add-pair-requires same-length same-length-2 returns)
