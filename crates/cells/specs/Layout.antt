@@ -14,7 +14,7 @@ use Prim.Native.Nat.{ℕ}
 abbrev pub PE : ℕ
 PE = 0
 
--- count, build: how many neighbours row i has. eliminate: the length of i's list, 0 of a dead object.
+-- build: how many neighbours row i has. eliminate: the length of i's list, 0 of a dead object.
 abbrev pub LEN : ℕ
 LEN = 1
 
@@ -77,7 +77,7 @@ NV = 14
 
 -- ---- tables used before it
 
--- clean: how often row i comes, then its next free place. build: the next free place of row i's list.
+-- clean: how often row i comes, then its next free place. count: how many neighbours row i has so far. build: the next free place of row i's list.
 abbrev pub SP : ℕ
 SP = 12
 

@@ -4,10 +4,12 @@ use Prim.Native.Nat.{_+_, _<_, _≤_, ℕ}
 use native.Mathlib.Omega.{arith}
 use mathlib.Core.List.{List, []}
 use mathlib.Core.Logic.{_⊎_, inl, inr}
-use mathlib.Core.Path.{_≡_}
+use mathlib.Core.Path.{_∙_, _≡_, ap, sym}
 use lib.IntN.{ℤ}
-use lib.ListN.{length}
-use Rattle.plain.proofs.Entries.{entries-none}
+use lib.ListN.{List·getD-eq-default, getD, length}
+use Rattle.plain.proofs.Entries.{counted-whole, entries-none}
+use Rattle.plain.proofs.Sums.{total-map}
+use Rattle.plain.specs.Lists.{total, upTo}
 use Rattle.plain.specs.Turns.{entries}
 use Rattle.cells.proofs.Fields.{rd-null}
 use Rattle.cells.proofs.Slices.{split}
@@ -51,3 +53,17 @@ module _ (n : ℕ) (X : ℕ → List ℕ) (l s : List ℤ) (room : Room n s) (no
         fits = fits;
       }
       room behind
+
+-- the same of the rows of a graph
+module _ (n : ℕ) (A : List (List ℕ)) (l s : List ℤ) (room : Room n s) (size : length A ≡ n) (list : (v : ℕ) → v < n → entries (at l) (rd n PE s v) (rd n LEN s v) ≡ getD A v [])
+    (place : (v : ℕ) → v < n → rd n PE s v ≡ sumTo v (λ u. length (getD A u []))) (count : (v : ℕ) → v < n → rd n LEN s v ≡ length (getD A v [])) (fits : total length A ≤ length l) where
+  pub rows-sum : sumTo n (λ v. length (getD A v [])) ≡ total length A
+  rows-sum =
+      ap (λ (k : ℕ). total (λ v. length (getD A v [])) (upTo k)) (sym size)
+      ∙ sym (total-map length (λ v. getD A v []) (upTo (length A))) ∙ ap (total length) (counted-whole A [])
+
+  pub space-rows : Space n (λ v. getD A v []) l s 0 (total length A) (total length A)
+  space-rows =
+      rw (← rows-sum)
+      (space-packed n (λ v. getD A v []) l s room (λ i a. List·getD-eq-default A [] (omega (arith, size))) count place
+      (λ i a. rw (← place i a, ← count i a) (list i a)) (omega (arith, rows-sum)))

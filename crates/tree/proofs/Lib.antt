@@ -11,3 +11,4 @@ pub mod Prepared
 pub mod Grove
 pub mod Written
 pub mod Finished
+pub mod Example
