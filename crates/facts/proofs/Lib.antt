@@ -66,3 +66,4 @@ pub mod Totals
 pub mod Words
 pub mod Flags
 pub mod Measured
+pub mod Unparented

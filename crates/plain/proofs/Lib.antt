@@ -15,3 +15,4 @@ pub mod Turns
 pub mod Falling
 pub mod Classes
 pub mod Products
+pub mod Parts
