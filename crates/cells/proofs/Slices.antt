@@ -1,0 +1,86 @@
+-- The laws of `at` and `wr`: what a cell holds after a store, and that a store keeps the length.
+-- Assumes nothing.
+use Prim.Native.Nat.{ℕ, _+_, _-_, _*_, _<_, _≤_, _^_}
+use native.Mathlib.Omega.{arith}
+use native.Mathlib.Decide.{decLt, ℕ-discrete}
+use mathlib.Core.Path.{_≡_, refl, sym, ap, _∙_}
+use mathlib.Core.Logic.{_≢_, _⊎_, inl, inr}
+use mathlib.Core.Bool.{Bool, true, false}
+use mathlib.Core.List.{List}
+use borrow.Author.Tests.{ltb-true, lt-ltb, le-ltb}
+use lib.Dec.{ltb}
+use lib.IntN.{ℤ, pos}
+use lib.ListN.{length, getD, set, length-set, List·getD-eq-default}
+use lib.Seq.{getD-set-same, getD-set-other, set-out, set-comm, set-set}
+use Rattle.cells.specs.View.{nat, at, wr, plus}
+
+-- ---- case splits for laws
+
+pub split : (i n : ℕ) → (i < n) ⊎ (n ≤ i)
+split i n = elim (decLt i n) [ yes h ↦ inl h | no h ↦ inr (omega arith) ]
+
+pub same? : (i j : ℕ) → (i ≡ j) ⊎ (i ≢ j)
+same? i j = elim (ℕ-discrete i j) [ yes h ↦ inl h | no h ↦ inr h ]
+
+-- ---- one store
+
+module _ (l : List ℤ) (i v : ℕ) where
+  pub at-wr-same : i < length l → at (wr l i v) i ≡ v
+  unfolding at wr
+  at-wr-same h = ap nat (getD-set-same l i (pos v) (pos 0) h)
+
+  pub at-wr-other : (j : ℕ) → j ≢ i → at (wr l i v) j ≡ at l j
+  unfolding at wr
+  at-wr-other j h = ap nat (getD-set-other l i j (pos v) (pos 0) h)
+
+  pub length-wr : length (wr l i v) ≡ length l
+  unfolding wr
+  length-wr = length-set l i (pos v)
+
+  -- past the end nothing is stored
+  pub wr-out : length l ≤ i → wr l i v ≡ l
+  unfolding wr
+  wr-out h = set-out l i (pos v) h
+
+-- past the end there is 0
+pub at-out : (l : List ℤ) (i : ℕ) → length l ≤ i → at l i ≡ 0
+unfolding at
+at-out l i h = ap nat (List·getD-eq-default l (pos 0) h)
+
+-- ---- two stores
+
+pub wr-wr : (l : List ℤ) (i a b : ℕ) → wr (wr l i a) i b ≡ wr l i b
+unfolding wr
+wr-wr l i a b = set-set l i (pos a) (pos b)
+
+pub wr-comm : (l : List ℤ) (i j a b : ℕ) → i ≢ j → wr (wr l i a) j b ≡ wr (wr l j b) i a
+unfolding wr
+wr-comm l i j a b h = set-comm l i j (pos a) (pos b) h
+
+-- ---- for `simp`: the side condition is a test, or stands among the variables, either way round
+
+pub at-wr-hit : (l : List ℤ) (i v : ℕ) → ltb i (length l) ≡ true → at (wr l i v) i ≡ v
+at-wr-hit l i v h = at-wr-same l i v (ltb-true i (length l) h)
+
+pub at-wr-cell : (l : List ℤ) (i v j : ℕ) → i ≢ j → at (wr l i v) j ≡ at l j
+at-wr-cell l i v j h = at-wr-other l i v j (λ e. h (sym e))
+
+pub at-wr-cell′ : (l : List ℤ) (i v j : ℕ) → j ≢ i → at (wr l i v) j ≡ at l j
+at-wr-cell′ l i v j h = at-wr-other l i v j h
+
+-- ---- capped sums
+
+pub plus-sum : (a b : ℕ) → a + b < 2 ^ 63 → plus a b ≡ a + b
+unfolding plus
+plus-sum a b h = rw (lt-ltb (a + b) (2 ^ 63) h)
+
+pub plus-cap : (a b : ℕ) → 2 ^ 63 ≤ a + b → plus a b ≡ 2 ^ 63 - 1
+unfolding plus
+plus-cap a b h = rw (le-ltb (a + b) (2 ^ 63) h)
+
+plus-either : (a b : ℕ) → (a + b < 2 ^ 63) ⊎ (2 ^ 63 ≤ a + b) → plus a b < 2 ^ 63
+plus-either a b (inl h) = rw (plus-sum a b h) h
+plus-either a b (inr h) = rw (plus-cap a b h) (omega arith)
+
+pub plus-small : (a b : ℕ) → plus a b < 2 ^ 63
+plus-small a b = plus-either a b (split (a + b) (2 ^ 63))

@@ -1,0 +1,4 @@
+-- The definitions that the contracts of `cells` cite.
+pub mod Layout
+pub mod View
+pub mod Links
