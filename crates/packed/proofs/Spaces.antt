@@ -1,0 +1,95 @@
+-- The whole space when one object is changed: what the steps of an elimination cite.
+-- Assumes nothing.
+use Prim.Native.Nat.{_+_, _<_, _≤_, ℕ}
+use native.Mathlib.Omega.{arith}
+use mathlib.Core.Bool.{false}
+use mathlib.Core.List.{List, []}
+use mathlib.Core.Logic.{_≢_, _⊎_, inl, inr}
+use mathlib.Core.Path.{_≡_, ap, refl, sym}
+use borrow.Author.Tests.{lt-ltb}
+use lib.Dec.{eqb}
+use lib.IntN.{ℤ}
+use lib.ListN.{length, set}
+use Rattle.plain.proofs.Entries.{entries-none}
+use Rattle.plain.specs.Turns.{entries, upd}
+use Rattle.cells.proofs.Fields.{room-up}
+use Rattle.cells.proofs.Laws.{mem, rd-up-field, room-yes}
+use Rattle.cells.proofs.Slices.{same?}
+use Rattle.cells.specs.Layout.{LEN, ORD, PE}
+use Rattle.cells.specs.View.{Room, at, rd, up, wr}
+use Rattle.packed.specs.Places.{Mem, Space, places}
+use Rattle.packed.proofs.Frame.{ends, other-field}
+use Rattle.packed.proofs.Objects.{Off, rewritten, stored}
+use Rattle.packed.proofs.Orders.{sorted-by, sorted-fewer}
+
+-- lists by rising number and place, and no table yet
+pub space-start : (n : ℕ) (X : ℕ → List ℕ) (l s : List ℤ) (lim : ℕ) → Mem l (places n s) lim X → Room n s
+    → ((i j : ℕ) → i < j → 0 < rd n LEN s i → 0 < rd n LEN s j → rd n PE s i + rd n LEN s i ≤ rd n PE s j) → Space n X l s 0 lim lim
+space-start n X l s lim h room o =
+    record {
+      lists = h;
+      room = room;
+      sorted = record {
+        low = λ i j a x y u v. o i j a x y;
+        edge = λ i x u. ends l (places n s) lim X h i x;
+        over = λ t a x. absurd (omega arith);
+        high = λ t u a b x y. absurd (omega arith);
+        all = λ i x. inl (omega (arith, ends l (places n s) lim X h i x));
+        wide = omega arith;
+      };
+    }
+
+-- every object dead
+pub space-none : (n : ℕ) (l s : List ℤ) → Room n s → ((i : ℕ) → rd n LEN s i ≡ 0) → Space n (λ i. []) l s 0 0 0
+space-none n l s room z =
+    space-start n (λ i. []) l s 0
+    record {
+      lists = λ j. rw (z j) (entries-none (at l) (rd n PE s j));
+      one = λ i j q a b. absurd (omega (arith, a .from, a .to, z i));
+      under = λ j q a. absurd (omega (arith, a .from, a .to, z j));
+      fits = omega arith;
+    }
+    room
+    (λ i j a x y. absurd (omega (arith, z i)))
+
+module _ (n : ℕ) (X : ℕ → List ℕ) (l s : List ℤ) (cnt base lim : ℕ) (h : Space n X l s cnt base lim) where
+  -- a store in a field that is none of the three
+  pub space-field : (c i v : ℕ) → eqb c PE ≡ false → eqb c LEN ≡ false → eqb c ORD ≡ false → Space n X l (up n c s i v) cnt base lim
+  space-field c i v p q r =
+      record {
+        lists = other-field n c s i v p q l lim X (h .lists);
+        room = room-up n c s i v (h .room);
+        sorted = sorted-by (places n (up n c s i v)) (rd n ORD s) (rd n ORD (up n c s i v)) (λ t. rd-up-field n c ORD s i v t r) cnt base lim
+            (sorted-fewer (places n s) (places n (up n c s i v))
+            (λ j x. (rd-up-field n c PE s i v j p, omega (arith, rd-up-field n c LEN s i v j q))) (rd n ORD s) cnt base lim lim (omega arith) (h .sorted));
+      }
+
+  module _ (j : ℕ) where
+    -- entry t of j's list becomes v
+    pub space-stored : (t v : ℕ) → t < length (X j) → Space n (upd X j (set (X j) t v)) (wr l (rd n PE s j + t) v) s cnt base lim
+    space-stored t v a =
+        record { lists = stored l (places n s) lim X (h .lists) j t v a; room = h .room; sorted = h .sorted }
+
+    fewer : j < n → (k : ℕ) → k ≤ rd n LEN s j → (i : ℕ) → (i ≡ j) ⊎ (i ≢ j) → rd n LEN (up n LEN s j k) i ≤ rd n LEN s i
+    fewer hj k a i (inl y) =
+        let z : rd n LEN (up n LEN s j k) j ≡ k = simp (mem, room-yes n s (h .room), lt-ltb j n hj) in
+        omega (arith, ap (rd n LEN (up n LEN s j k)) y, ap (rd n LEN s) y)
+    fewer hj k a i (inr y) =
+        let u : j ≢ i = λ w. y (sym w) in
+        let z : rd n LEN (up n LEN s j k) i ≡ rd n LEN s i = simp mem in
+        omega arith
+
+    -- j's list becomes x, the first k numbers at its place
+    pub space-rewritten : j < n → (m : List ℤ) (k : ℕ) (x : List ℕ) → k ≤ rd n LEN s j → length m ≡ length l
+        → ((q : ℕ) → Off (places n s) j q → at m q ≡ at l q) → entries (at m) (rd n PE s j) k ≡ x → Space n (upd X j x) m (up n LEN s j k) cnt base lim
+    space-rewritten hj m k x a b o e =
+        record {
+          lists = rewritten n s l lim X (h .lists) (h .room) j hj m k x a b o e;
+          room = room-up n LEN s j k (h .room);
+          sorted = sorted-by (places n (up n LEN s j k)) (rd n ORD s) (rd n ORD (up n LEN s j k)) (λ t. simp mem) cnt base lim
+              (sorted-fewer (places n s) (places n (up n LEN s j k)) (λ i y. (simp mem, fewer hj k a i (same? i j))) (rd n ORD s) cnt base lim lim (omega arith) (h .sorted));
+        }
+
+    -- j is dead
+    pub space-dropped : j < n → Space n (upd X j []) l (up n LEN s j 0) cnt base lim
+    space-dropped hj = space-rewritten hj l 0 [] (omega arith) refl (λ q a. refl) (entries-none (at l) (rd n PE s j))

@@ -1,0 +1,72 @@
+use borrow.Author.Needs.{needs}
+use mathlib.Core.Path.{_≡_}
+use Prim.Native.Nat.{_+_, _≤_, _-_}
+use lib.ListN.{length}
+use Rattle.cells.specs.View.{at, wr}
+use Rattle.packed.specs.Model.{copied}
+use Rattle.plain.specs.Turns.{Turned}
+use Rattle.plain.proofs.Turns.{begin, turn, finish}
+use Rattle.packed.proofs.copy_down.Statement.{statement}
+use Rattle.packed.proofs.copy_down.Tie as tie
+use Rattle.packed.proofs.copy_down.Reads as reads
+use Rattle.packed.proofs.copy_down.Lts as lts
+use Rattle.cells.proofs.copy_cell.Reads as copy-cell-reads
+
+abbrev Inv-loop : tie.InvT-loop
+Inv-loop lists₀ p e len k₀ lists k = Turned (λ t m. wr m (e + t) (at m (p + t))) lists₀ k lists × (length lists ≡ length lists₀) × (k ≤ len)
+
+abbrev μ-loop : tie.MeasureT-loop
+μ-loop lists₀ p e len k₀ lists k = len - k
+
+-- src/lib.rt:41:5
+loop-holds : tie.Need-loop-holds Inv-loop μ-loop
+loop-holds c = search (needs, begin)
+
+-- src/lib.rt:42:26
+add-copy-cell : tie.Need-add-copy-cell Inv-loop μ-loop
+add-copy-cell c = search needs
+
+-- src/lib.rt:42:33
+add-copy-cell-2 : tie.Need-add-copy-cell-2 Inv-loop μ-loop
+add-copy-cell-2 c = search needs
+
+-- src/lib.rt:42:9
+copy-cell-requires : tie.Need-copy-cell-requires Inv-loop μ-loop
+copy-cell-requires c κs = search needs
+
+-- src/lib.rt:41:9
+add-k : tie.Need-add-k Inv-loop μ-loop
+add-k c = search needs
+
+-- src/lib.rt:41:5
+loop-less : tie.Need-loop-less Inv-loop μ-loop
+loop-less c = search needs
+
+-- src/lib.rt:41:5
+loop-again : tie.Need-loop-again Inv-loop μ-loop
+loop-again c = search (needs, turn)
+
+-- src/lib.rt:37:1
+same-length : tie.Need-same-length Inv-loop μ-loop
+same-length c = search needs
+
+-- src/lib.rt:37:1
+returns : tie.Need-returns Inv-loop μ-loop
+unfolding copied
+returns c = search (needs, finish)
+
+pub copy-down-spec : {M : Type 1} → statement M
+copy-down-spec =
+    tie.close
+    (tie.spec
+    Inv-loop
+    μ-loop
+    loop-holds
+    add-copy-cell
+    add-copy-cell-2
+    copy-cell-requires
+    add-k
+    loop-less
+    loop-again
+    same-length
+    returns)

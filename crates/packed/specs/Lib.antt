@@ -1,0 +1,3 @@
+-- The definitions that the contracts of `packed` cite.
+pub mod Places
+pub mod Model
