@@ -2,6 +2,7 @@
 pub mod Root
 pub mod Problems
 pub mod Settled
+pub mod Adjacency
 pub mod Thresholds
 pub mod Refusals
 pub mod Filled

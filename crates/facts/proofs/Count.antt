@@ -4,11 +4,10 @@ use Prim.Native.Nat.{ℕ, _+_, _<_}
 use native.Mathlib.Omega.{arith}
 use mathlib.Core.Path.{_≡_, sym, ap, _∙_}
 use mathlib.Core.Bool.{Bool, true, false, cond, not}
-use mathlib.Core.List.{List, _∷_}
+use mathlib.Core.List.{_∷_}
 use Rattle.plain.proofs.Logic.{not-back}
-use Rattle.plain.proofs.Members.{not-here, not-there, member-cases, member-kept, kept-passes, member-countUp}
-use Rattle.plain.proofs.Repeats.{distinct-keep, distinct-countUp}
-use Rattle.plain.proofs.Sums.{total-parts, total-alike, total-members}
+use Rattle.plain.proofs.Members.{not-here, not-there, member-cases, kept-passes}
+use Rattle.plain.proofs.Sums.{total-members, total-rows}
 use Rattle.plain.specs.Lists.{member, keep, total, upTo}
 use Rattle.plain.specs.Members.{Distinct}
 use Rattle.definition.specs.State.{Graph, Kind, kind, weight, isVariable}
@@ -17,16 +16,6 @@ use Rattle.facts.proofs.Invariant.{var-inside}
 use Rattle.facts.proofs.Collected.{collected-var, distinct-collected, pivot-outside}
 use Rattle.facts.proofs.Stepped.{Stepped, After, away, remains}
 use Rattle.facts.specs.Invariant.{Var, Quotient, varWeight}
-
--- a sum over all rows: over the pivot and the collected ones, and over the others
-split-rows : {n : ℕ} (f : ℕ → ℕ) (xs : List ℕ) → Distinct xs → ((x : ℕ) → member x xs ≡ true → x < n)
-    → total f (upTo n) ≡ total f xs + total f (keep (λ v. not (member v xs)) (upTo n))
-split-rows {n} f xs d l =
-    total-parts f (λ v. member v xs) (upTo n)
-    ∙ ap (λ (x : ℕ). x + total f (keep (λ v. not (member v xs)) (upTo n)))
-    (total-alike f (keep (λ v. member v xs) (upTo n)) xs (distinct-keep (λ v. member v xs) (upTo n) (distinct-countUp 0 n)) d
-    (λ x m. kept-passes x (λ v. member v xs) (upTo n) m)
-    (λ x m. member-kept x (λ v. member v xs) (upTo n) m (member-countUp x 0 n (omega arith) (omega (arith, l x m)))))
 
 module _ {n : ℕ} {aggressive : Bool} {g t : Graph} {p : ℕ} (q : Quotient n g) (pv : Var g p) (st : Stepped n aggressive g t p) where
   all-inside : (x : ℕ) → member x (p ∷ collected g p) ≡ true → x < n
@@ -60,7 +49,7 @@ module _ {n : ℕ} {aggressive : Bool} {g t : Graph} {p : ℕ} (q : Quotient n g
       let e : total (varWeight g) (collected g p) ≡ total (weight g) (collected g p) =
       total-members (varWeight g) (weight g) (collected g p) (λ v m. var-weight-before v (collected-var q p pv v m)) in
       let r : total (varWeight t) (upTo n) ≡ varWeight t p + total (varWeight t) (collected g p) + total (varWeight t) (keep (λ v. not (member v (p ∷ collected g p))) (upTo n)) =
-      split-rows (varWeight t) (p ∷ collected g p) d all-inside in
+      total-rows (varWeight t) (p ∷ collected g p) d all-inside in
       let u : total (varWeight g) (upTo n) ≡ varWeight g p + total (varWeight g) (collected g p) + total (varWeight g) (keep (λ v. not (member v (p ∷ collected g p))) (upTo n)) =
-      split-rows (varWeight g) (p ∷ collected g p) d all-inside in
+      total-rows (varWeight g) (p ∷ collected g p) d all-inside in
       omega (arith, rest-same, st .conserved)

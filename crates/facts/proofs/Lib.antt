@@ -57,3 +57,12 @@ pub mod Classes
 pub mod Tops
 pub mod Buckets
 pub mod Absorbing
+pub mod Weighed
+pub mod Places
+pub mod Reading
+pub mod Storing
+pub mod Collections
+pub mod Totals
+pub mod Words
+pub mod Flags
+pub mod Measured

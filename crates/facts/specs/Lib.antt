@@ -5,4 +5,5 @@ pub mod History
 pub mod Past
 pub mod Accepted
 pub mod Classes
+pub mod Reading
 pub mod Opened

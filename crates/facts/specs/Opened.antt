@@ -5,7 +5,8 @@ use Rattle.definition.specs.Opened as definition
 use Rattle.facts.specs.History
 use Rattle.facts.specs.Past
 use Rattle.facts.specs.Classes
+use Rattle.facts.specs.Reading
 
 unfoldable pub opened : Unit {0}
-unfolding flatMap definition.opened History.rowsOf History.frontAt History.historyStep History.historyAt History.history History.bornOf History.bornAt Past.H3 Past.H4 Past.H5 Classes.wrappedKey Classes.newestFirst Classes.topOf Classes.ownerOf Classes.bucketOf Classes.mergeBuckets
+unfolding flatMap definition.opened History.rowsOf History.frontAt History.historyStep History.historyAt History.history History.bornOf History.bornAt Past.H3 Past.H4 Past.H5 Classes.wrappedKey Classes.newestFirst Classes.topOf Classes.ownerOf Classes.bucketOf Classes.mergeBuckets Reading.taken Reading.takenAt
 opened = tt

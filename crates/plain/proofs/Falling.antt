@@ -1,12 +1,13 @@
 -- The sums of falling numbers r + m - 1, .., r, of their squares and of their triangles: LL10 of the proof plan.
 -- Assumes nothing.
 use Prim.Native.Nat.{_-_, ℕ, zero, suc, _<_, _+_, _*_, _/_, _≤_}
-use native.Mathlib.Nat.{mul-suc, suc-mul, add-mul, mul-add, mul-comm, mul-left-comm, mul-assoc, mul-le-mul}
+use native.Mathlib.Nat.{mul-zero, zero-mul, mul-suc, suc-mul, add-mul, mul-add, mul-comm, mul-left-comm, mul-assoc, mul-le-mul}
 use native.Mathlib.Omega.{arith}
 use mathlib.Core.Path.{_≡_, refl, ap, _∙_}
 use mathlib.Core.List.{List, [], _∷_}
 use lib.ListN.{length, getD}
-use Rattle.plain.specs.Lists.{fallTo, total, itself}
+use Rattle.plain.specs.Lists.{fallTo, total, itself, upTo, countUp}
+use Rattle.plain.proofs.Sums.{total-upTo}
 
 pub length-fallTo : (r m : ℕ) → length (fallTo r m) ≡ m
 unfolding fallTo
@@ -109,3 +110,38 @@ fall-squares r m = omega (arith, six-fall r m)
 -- so that the two together are even: half of them is the sum of the triangles
 pub fall-triangles : (r m : ℕ) → total triangle (fallTo r m) ≡ (total square (fallTo r m) + total itself (fallTo r m)) / 2
 fall-triangles r m = omega (arith, triangle-both (fallTo r m))
+
+-- ---- against all that stands below
+
+-- m + k - 1, .., m, and m - 1, .., 0
+pub fall-above : (h : ℕ → ℕ) (m k : ℕ) → total h (fallTo m k) + total h (upTo m) ≡ total h (upTo (m + k))
+unfolding total fallTo
+fall-above h m zero = let e : m + 0 ≡ m = omega arith in rw e (omega arith)
+fall-above h m (suc k) = let e : m + suc k ≡ suc (m + k) = omega arith in rw e (omega (arith, fall-above h m k, total-upTo h (m + k)))
+
+pub fall-all : (h : ℕ → ℕ) (m : ℕ) → total h (fallTo 0 m) ≡ total h (upTo m)
+unfolding total countUp
+fall-all h m = let e : 0 + m ≡ m = omega arith in omega (arith, rw e at (fall-above h 0 m))
+
+module _ (h : ℕ → ℕ) (mono : (x y : ℕ) → x ≤ y → h x ≤ h y) where
+  fall-raised : (r m k : ℕ) → r ≤ m → total h (fallTo r k) ≤ total h (fallTo m k)
+  unfolding total fallTo
+  fall-raised r m zero l = omega arith
+  fall-raised r m (suc k) l = omega (arith, fall-raised r m k l, mono (r + k) (m + k) (omega arith))
+
+  -- k falling numbers from r on take no more than the k that stand highest below m + k
+  pub fall-under : (r m k : ℕ) → r ≤ m → total h (fallTo r k) + total h (upTo m) ≤ total h (upTo (m + k))
+  fall-under r m k l = omega (arith, fall-raised r m k l, fall-above h m k)
+
+  pub upTo-mono : (m n : ℕ) → m ≤ n → total h (upTo m) ≤ total h (upTo n)
+  upTo-mono m n l = let e : n ≡ m + (n - m) = omega arith in rw e (omega (arith, fall-above h m (n - m)))
+
+-- the sums of all numbers below n, and of their squares and triangles
+pub sum-below : (n : ℕ) → total itself (upTo n) ≡ (n - 1) * n / 2
+sum-below n = omega (arith, fall-all itself n, twice-fall 0 n, mul-zero n)
+
+pub squares-below : (n : ℕ) → 6 * total square (upTo n) ≡ (n - 1) * n * (2 * n - 1)
+squares-below n = omega (arith, fall-all square n, six-fall 0 n, mul-zero (n * 0), zero-mul (n - 1), zero-mul n, ap (λ (x : ℕ). x * n) (zero-mul (n - 1)))
+
+pub triangles-below : (n : ℕ) → 2 * total triangle (upTo n) ≡ total square (upTo n) + total itself (upTo n)
+triangles-below n = triangle-both (upTo n)

@@ -20,6 +20,14 @@ module _ {A : Type 0} where
   all-append P [] ys h k = k
   all-append P (x ∷ xs) ys h k = (h .0, all-append P xs ys (h .1) k)
 
+  pub all-left : (P : A → Type 0) (xs ys : List A) → All P (xs ++ ys) → All P xs
+  all-left P [] ys h = tt
+  all-left P (x ∷ xs) ys h = (h .0, all-left P xs ys (h .1))
+
+  pub all-right : (P : A → Type 0) (xs ys : List A) → All P (xs ++ ys) → All P ys
+  all-right P [] ys h = h
+  all-right P (x ∷ xs) ys h = all-right P xs ys (h .1)
+
   pub all-consIf : (P : A → Type 0) (b : Bool) (x : A) (xs : List A) → (b ≡ true → P x) → All P xs → All P (consIf b x xs)
   all-consIf P true x xs h k = (h refl, k)
   all-consIf P false x xs h k = k

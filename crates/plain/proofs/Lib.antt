@@ -14,3 +14,4 @@ pub mod Entries
 pub mod Turns
 pub mod Falling
 pub mod Classes
+pub mod Products

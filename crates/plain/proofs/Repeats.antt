@@ -7,7 +7,7 @@ use mathlib.Core.Logic.{_≢_}
 use mathlib.Core.Bool.{false, Bool, true, not}
 use mathlib.Core.List.{List, [], _∷_, _++_, map, reverse, reverseAux}
 use lib.Dec.{eqb}
-use lib.ListN.{drop, length}
+use lib.ListN.{drop, length, length-append}
 use borrow.Author.Tests.{eq-eqb}
 use Rattle.plain.proofs.Logic.{either, and-left, and-right, and-both, bool-ext}
 use Rattle.plain.proofs.Members.{member-above, not-in, map-was, not-kept, member-nil, not-here, member-append, not-cons, not-there, member-here, apart, member-there, no-member, member-cases, member-delete, member-upTo, every-within, within-every}
@@ -95,6 +95,11 @@ length-dropped p (x ∷ xs) y h k =
     go : (b : Bool) → length (keep p xs) < length xs → length (consIf b x (keep p xs)) < suc (length xs)
     go true l = omega arith
     go false l = omega arith
+
+pub length-rotate : (xs : List ℕ) → length (rotate xs) ≡ length xs
+unfolding rotate
+length-rotate [] = refl
+length-rotate (x ∷ xs) = omega (arith, length-append xs (x ∷ []))
 
 pub length-countUp : (a k : ℕ) → length (countUp a k) ≡ k
 unfolding countUp

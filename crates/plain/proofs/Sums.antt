@@ -7,10 +7,11 @@ use mathlib.Core.Logic.{_≢_}
 use mathlib.Core.Bool.{Bool, cond, true, false, not}
 use mathlib.Core.List.{List, _++_, [], _∷_, flatMap, map}
 use lib.Dec.{eqb}
-use lib.ListN.{length}
+use lib.ListN.{length, getD, length-append}
 use borrow.Author.Tests.{ne-eqb, eq-eqb}
-use Rattle.plain.proofs.Members.{member-here, member-there, no-member, member-cases, not-here, not-there, member-delete, apart, delete-apart, delete-was}
-use Rattle.plain.proofs.Repeats.{distinct-delete}
+use Rattle.plain.proofs.Entries.{entries-whole, entries-counted}
+use Rattle.plain.proofs.Members.{member-here, member-there, no-member, member-cases, not-here, not-there, member-delete, apart, delete-apart, delete-was, member-kept, kept-passes, member-upTo}
+use Rattle.plain.proofs.Repeats.{distinct-delete, distinct-keep, distinct-countUp}
 use Rattle.plain.specs.Lists.{total, consIf, keep, member, delete, countUp, upTo}
 use Rattle.plain.specs.Members.{All, Distinct, Within}
 
@@ -48,6 +49,11 @@ module _ {A : Type 0} where
   unfolding total
   total-ones [] = refl
   total-ones (x ∷ xs) = omega (arith, total-ones xs)
+
+  pub length-flatMap : {B : Type 0} (g : B → List A) (xs : List B) → length (flatMap g xs) ≡ total (λ x. length (g x)) xs
+  unfolding total flatMap
+  length-flatMap g [] = refl
+  length-flatMap g (x ∷ xs) = omega (arith, length-append (g x) (flatMap g xs), length-flatMap g xs)
 
   total-consIf : (f : A → ℕ) (b : Bool) (x : A) (xs : List A) → total f (consIf b x xs) ≡ cond b (f x) 0 + total f xs
   unfolding total
@@ -87,6 +93,11 @@ pub total-upTo : (f : ℕ → ℕ) (k : ℕ) → total f (upTo (suc k)) ≡ tota
 total-upTo f k =
     let e : 0 + k ≡ k = omega arith in
     ap (total f) (countUp-snoc 0 k) ∙ total-append f (upTo k) ((0 + k) ∷ []) ∙ omega (arith, total-one f (0 + k), ap f e)
+
+-- the elements of a list, one by one by their places
+pub total-looked : {A : Type 0} (f : A → ℕ) (l : List A) (d : A) → total (λ i. f (getD l i d)) (upTo (length l)) ≡ total f l
+total-looked f l d =
+    sym (total-map f (λ i. getD l i d) (upTo (length l))) ∙ ap (total f) (sym (entries-counted (λ i. getD l i d) 0 (length l)) ∙ entries-whole l d)
 
 -- ---- over the members
 
@@ -161,6 +172,16 @@ total-within f (x ∷ xs) ys d e w =
 -- LL2
 pub total-alike : (f : ℕ → ℕ) (xs ys : List ℕ) → Distinct xs → Distinct ys → Within xs ys → Within ys xs → total f xs ≡ total f ys
 total-alike f xs ys d e w v = omega (arith, total-within f xs ys d e w, total-within f ys xs e d v)
+
+-- a sum over 0, 1, .., n - 1: over a list of some of them, and over the others
+pub total-rows : {n : ℕ} (f : ℕ → ℕ) (xs : List ℕ) → Distinct xs → ((x : ℕ) → member x xs ≡ true → x < n)
+    → total f (upTo n) ≡ total f xs + total f (keep (λ v. not (member v xs)) (upTo n))
+total-rows {n} f xs d l =
+    total-parts f (λ v. member v xs) (upTo n)
+    ∙ ap (λ (x : ℕ). x + total f (keep (λ v. not (member v xs)) (upTo n)))
+    (total-alike f (keep (λ v. member v xs) (upTo n)) xs (distinct-keep (λ v. member v xs) (upTo n) (distinct-countUp 0 n)) d
+    (λ x m. kept-passes x (λ v. member v xs) (upTo n) m)
+    (λ x m. member-kept x (λ v. member v xs) (upTo n) m (member-upTo x n (l x m))))
 
 -- what moves from a to b stays in the sum
 pub total-moved : (f g : ℕ → ℕ) (a b : ℕ) (xs : List ℕ) → Distinct xs → member a xs ≡ true → member b xs ≡ true → a ≢ b

@@ -1,0 +1,95 @@
+-- The statistics in words of 64 bits: each product, sum and total is small enough, up to 100,000 columns and up to 2,000,000.
+-- Assumes nothing.
+use Prim.Native.Nat.{ℕ, _+_, _-_, _*_, _/_, _^_, _≤_, _<_}
+use native.Mathlib.Nat.{mul-le-mul}
+use native.Mathlib.Omega.{arith}
+use Rattle.plain.proofs.Falling.{square, triangle, square-mono, triangle-mono, sum-below, triangles-below}
+use Rattle.plain.proofs.Products.{pairs-most, rests-most, crossed-most, cubes-most, halved-most, whole-most, squares-most, falls-most, sums-small, squares-small}
+use Rattle.plain.specs.Lists.{total, itself}
+use Rattle.definition.specs.State.{State}
+use Rattle.definition.specs.Statistics.{gainQ, gainS, gainLdl, Six}
+use Rattle.facts.proofs.Gains.{fall-Q, fall-S, fall-Ldl}
+use Rattle.facts.proofs.Totals.{Tallied, gains-so-far, Bounded}
+
+-- ---- one element, with f pivots and the remaining weight r
+
+pub record Small (f r : ℕ) : Type 0 where
+  pub once : f * r < 2 ^ 63
+  pub pairs : (f - 1) * f < 2 ^ 63
+  pub rests : f * r * r < 2 ^ 63
+  pub crossed : r * (f - 1) * f < 2 ^ 63
+  -- in a word without sign
+  pub cubes : (f - 1) * f * (2 * f - 1) < 2 ^ 64
+  -- in one with a sign the product is halved first
+  pub halved : (f - 1) * f / 2 * (2 * f - 1) < 2 ^ 63
+  -- what the statistics gain
+  pub gain-q : gainQ f r < 2 ^ 63
+  pub gain-s : gainS f r < 2 ^ 63
+  pub gain-both : gainS f r + gainQ f r < 2 ^ 63
+
+pub small-words : (n f r : ℕ) → n ≤ 2000000 → f + r ≤ n → Small f r
+unfolding gainQ gainS
+small-words n f r l m =
+    let q = falls-most 2000000 n f r l m in
+    let s = squares-most 2000000 n f r l m in
+    let a = sums-small 2000000 2000000 (omega arith) in
+    let b = squares-small 2000000 2000000 (omega arith) in
+    let x : f ≤ 2000000 = omega arith in
+    let y : r ≤ 2000000 = omega arith in
+    let c : f * r ≤ 2000000 * 2000000 = mul-le-mul x y in
+    record {
+      once = omega arith;
+      pairs = omega (arith, pairs-most 2000000 n f r l m);
+      rests = omega (arith, rests-most 2000000 n f r l m);
+      crossed = omega (arith, crossed-most 2000000 n f r l m);
+      cubes = omega (arith, cubes-most 2000000 n f r l m);
+      halved = omega (arith, halved-most 2000000 n f r l m);
+      gain-q = omega arith;
+      gain-s = omega arith;
+      gain-both = omega arith;
+    }
+
+-- of 100,000 columns at most nothing needs to be halved, and the three may be added up before any is divided
+pub whole-words : (n f r : ℕ) → n ≤ 100000 → f + r ≤ n → f * r * r + r * (f - 1) * f + (f - 1) * f * (2 * f - 1) < 2 ^ 63
+whole-words n f r l m = omega (arith, whole-most 100000 n f r l m)
+
+-- ---- the totals
+
+-- of the elements made so far
+pub record SmallTotals (nd : ℕ) (s : State) : Type 0 where
+  pub lnz : total (λ e. gainQ (e .pivots) (e .rest + nd)) (s .fronts) < 2 ^ 41
+  pub lu : total (λ e. gainS (e .pivots) (e .rest + nd)) (s .fronts) < 2 ^ 62
+  pub ldl : total (λ e. gainLdl (e .pivots) (e .rest + nd)) (s .fronts) < 2 ^ 62
+
+pub totals-so-far : (nd n : ℕ) (s : State) → n ≤ 2000000 → Tallied nd n s → SmallTotals nd s
+totals-so-far nd n s l q =
+    let a = sums-small n 2000000 l in
+    let b = squares-small n 2000000 l in
+    record {
+      lnz = omega (arith, gains-so-far itself gainQ (λ x y h. h) fall-Q nd n s q);
+      lu = omega (arith, gains-so-far square gainS square-mono fall-S nd n s q);
+      ldl = omega (arith, gains-so-far triangle gainLdl triangle-mono fall-Ldl nd n s q, triangles-below n);
+    }
+
+-- of all, with the dense block
+pub record SmallSix (x : Six) : Type 0 where
+  pub lnz : x .lnz < 2 ^ 41
+  pub div : x .nDiv < 2 ^ 41
+  pub lu : x .nMultSubsLu < 2 ^ 62
+  pub ldl : x .nMultSubsLdl < 2 ^ 62
+  pub dense : x .nDense < 2 ^ 31
+  pub widest : x .dMax < 2 ^ 31
+
+pub six-small : (n : ℕ) (x : Six) → n ≤ 2000000 → Bounded n x → SmallSix x
+six-small n x l b =
+    let a = sums-small n 2000000 l in
+    let c = squares-small n 2000000 l in
+    let e = sum-below n in
+    record {
+      lnz = omega (arith, b .lnz);
+      div = omega (arith, b .div);
+      lu = omega (arith, b .lu);
+      ldl = omega (arith, b .ldl);
+      dense = omega (arith, b .dense);
+      widest = omega (arith, b .widest);
+    }
