@@ -1,11 +1,10 @@
 -- How `mem` is used, one line for each combination of a store and a read.
 -- Assumes nothing.
-use Prim.Native.Nat.{ℕ, suc, _+_, _<_, _≤_}
-use native.Mathlib.Omega.{arith}
-use mathlib.Core.Path.{_≡_, refl, sym}
+use Prim.Native.Nat.{ℕ, _<_, _≤_}
+use mathlib.Core.Path.{_≡_}
 use mathlib.Core.Logic.{_≢_}
 use mathlib.Core.List.{List}
-use mathlib.Core.Option.{Option, none, some}
+use mathlib.Core.Option.{Option, none}
 use borrow.Author.Tests.{lt-ltb, le-leb}
 use lib.IntN.{ℤ}
 use lib.ListN.{length}
@@ -61,3 +60,10 @@ module _ (n : ℕ) (s : List ℤ) (i j k v w : ℕ) (p : Option ℕ) where
   -- the list space
   of-lists : i ≢ j → i < length s → at (wr (wr s i v) j w) i ≡ v
   of-lists d h = simp (mem, lt-ltb i (length s) h)
+
+  -- a store at the null link, and one past it
+  at-null : rd n NEXT (up n NEXT (hang n (up n HEAD s n v) n p) n w) i ≡ rd n NEXT s i
+  at-null = simp mem
+
+  past : n ≤ j → rd n NEXT (up n NEXT (hang n (up n NEXT s j v) j p) j w) i ≡ rd n NEXT s i
+  past h = simp (mem, le-leb n j h)

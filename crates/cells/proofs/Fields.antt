@@ -1,19 +1,18 @@
 -- The laws of `rd` and `up`: no two fields, and no two places of a field, share a cell.
 -- Assumes nothing.
-use Prim.Native.Nat.{ℕ, suc, _+_, _-_, _*_, _<_, _≤_}
+use Prim.Native.Nat.{ℕ, suc, _+_, _*_, _<_, _≤_}
 use native.Mathlib.Nat.{mul-le-mul-right}
 use native.Mathlib.Omega.{arith}
 use mathlib.Core.Path.{_≡_, refl, sym, ap, _∙_}
 use mathlib.Core.Logic.{_≢_, _⊎_, inl, inr}
 use mathlib.Core.Bool.{Bool, true, false, cond}
 use mathlib.Core.List.{List}
-use borrow.Author.Tests.{ltb-true, ltb-false, leb-true, leb-false, eqb-true, eqb-false, lt-ltb, le-ltb, le-leb, lt-leb, eq-eqb, ne-eqb}
+use borrow.Author.Tests.{ltb-true, leb-true, eqb-true, lt-ltb, le-ltb, le-leb, lt-leb, eq-eqb, ne-eqb}
 use lib.Dec.{ltb, leb, eqb}
 use lib.IntN.{ℤ}
 use lib.ListN.{length}
-use Rattle.plain.proofs.Logic.{either, clash}
-use Rattle.cells.specs.View.{at, wr, place, within, rd, up, Room, roomy, spare}
-use Rattle.cells.proofs.Slices.{split, same?, at-wr-same, at-wr-other, at-out, length-wr, wr-out, wr-wr, wr-comm}
+use Rattle.cells.specs.View.{at, wr, place, within, rd, up, Room, spare}
+use Rattle.cells.proofs.Slices.{split, same?, at-wr-same, at-wr-other, length-wr, wr-wr, wr-comm}
 
 -- ---- where a field's cells are
 

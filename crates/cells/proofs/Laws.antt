@@ -2,21 +2,22 @@
 -- inequality among the variables, either way round. `simp mem` shows that a cell is as before; for a cell that was stored at,
 -- `simp (mem, room-yes n s room, lt-ltb i n hi)` shows what it holds.
 -- Assumes nothing.
-use Prim.Native.Nat.{ℕ, _+_, _*_, _<_, _≤_}
-use mathlib.Core.Path.{_≡_, refl, sym}
+use Prim.Native.Nat.{ℕ, _+_, _*_}
+use native.Mathlib.Nat.{le-refl}
+use mathlib.Core.Path.{_≡_, sym}
 use mathlib.Core.Logic.{_≢_}
-use mathlib.Core.Bool.{Bool, true, false}
+use mathlib.Core.Bool.{true, false}
 use mathlib.Core.List.{List}
 use mathlib.Core.Option.{Option, none}
 use borrow.Author.Tests.{ltb-true, leb-true, eqb-false, le-leb}
 use lib.Dec.{ltb, leb, eqb}
 use lib.IntN.{ℤ}
 use lib.ListN.{length}
-use Rattle.cells.specs.View.{at, wr, rd, up, Room, roomy, spare}
+use Rattle.cells.specs.View.{rd, up, Room, roomy, spare}
 use Rattle.cells.specs.Links.{parent, hang}
 use Rattle.cells.proofs.Slices.{at-wr-hit, at-wr-cell, at-wr-cell′, length-wr}
-use Rattle.cells.proofs.Fields.{rd-up-same, rd-up-other, rd-up-column, rd-up-entry, length-up, up-up}
-use Rattle.cells.proofs.Parents.{length-hang, parent-hang-same, parent-hang-other, rd-hang-other, rd-hang-gone, parent-up-other, parent-up-gone}
+use Rattle.cells.proofs.Fields.{rd-null, up-null, rd-up-same, rd-up-other, rd-up-column, rd-up-entry, length-up}
+use Rattle.cells.proofs.Parents.{hang-null, parent-null, length-hang, parent-hang-same, parent-hang-other, rd-hang-other, rd-hang-gone, parent-up-other, parent-up-gone}
 
 -- ---- room as a test
 
@@ -99,8 +100,40 @@ module _ (n : ℕ) (s : List ℤ) (i : ℕ) (p : Option ℕ) where
   pub parent-hang-cell′ : (j : ℕ) → j ≢ i → parent n (hang n s i p) j ≡ parent n s j
   parent-hang-cell′ j d = parent-hang-other n s i p j (λ e. d (sym e))
 
+-- ---- the null link, and what lies past it
+
+pub up-at-null : (n f : ℕ) (s : List ℤ) (v : ℕ) → ltb f 15 ≡ true → up n f s n v ≡ s
+up-at-null n f s v h = up-null n f s n v (ltb-true f 15 h) (le-refl n)
+
+pub rd-at-null : (n f : ℕ) (s : List ℤ) → ltb f 15 ≡ true → rd n f s n ≡ 0
+rd-at-null n f s h = rd-null n f s n (ltb-true f 15 h) (le-refl n)
+
+pub hang-at-null : (n : ℕ) (s : List ℤ) (p : Option ℕ) → hang n s n p ≡ s
+hang-at-null n s p = hang-null n s n p (le-refl n)
+
+pub parent-at-null : (n : ℕ) (s : List ℤ) → parent n s n ≡ none
+parent-at-null n s = parent-null n s n (le-refl n)
+
+module _ (n f : ℕ) (s : List ℤ) (i v : ℕ) where
+  pub up-past : ltb f 15 ≡ true → leb n i ≡ true → up n f s i v ≡ s
+  up-past h k = up-null n f s i v (ltb-true f 15 h) (leb-true n i k)
+
+  pub rd-past : ltb f 15 ≡ true → leb n i ≡ true → rd n f s i ≡ 0
+  rd-past h k = rd-null n f s i (ltb-true f 15 h) (leb-true n i k)
+
+module _ (n : ℕ) (s : List ℤ) (i : ℕ) (p : Option ℕ) where
+  pub hang-past : leb n i ≡ true → hang n s i p ≡ s
+  hang-past k = hang-null n s i p (leb-true n i k)
+
+  pub parent-past : leb n i ≡ true → parent n s i ≡ none
+  parent-past k = parent-null n s i (leb-true n i k)
+
 -- what a read after stores gives
 pub ruleset mem = (
+  up-at-null,
+  rd-at-null,
+  hang-at-null,
+  parent-at-null,
   rd-up-hit,
   column-hit,
   entry-hit,
@@ -128,4 +161,8 @@ pub ruleset mem = (
   roomy-hang,
   spare-up,
   spare-hang,
+  up-past,
+  rd-past,
+  hang-past,
+  parent-past,
 )

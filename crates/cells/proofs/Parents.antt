@@ -8,16 +8,15 @@ use mathlib.Core.Logic.{_≢_, _⊎_, inl, inr}
 use mathlib.Core.Bool.{Bool, true, false}
 use mathlib.Core.List.{List}
 use mathlib.Core.Option.{Option, none, some}
-use borrow.Author.Tests.{ltb-true, lt-ltb, le-ltb}
-use lib.Dec.{ltb}
+use borrow.Author.Tests.{lt-ltb, le-ltb}
 use lib.IntN.{ℤ, pos, negsuc, negℤ, _-ℤ_}
 use lib.ListN.{length, getD, set, length-set, List·getD-eq-default}
 use lib.Seq.{getD-set-same, getD-set-other, set-out, set-comm, set-set}
 use Rattle.cells.specs.Layout.{PE}
 use Rattle.cells.specs.View.{nat, at, wr, place, within, rd, up, Room}
 use Rattle.cells.specs.Links.{flipped, coded, decoded, named, linked, parent, hang}
-use Rattle.cells.proofs.Slices.{split, same?}
-use Rattle.cells.proofs.Fields.{places-differ, inside, up-in, up-out, length-up, rd-in, rd-out, rd-null}
+use Rattle.cells.proofs.Slices.{split}
+use Rattle.cells.proofs.Fields.{places-differ, inside, up-in, up-out, rd-in, rd-out, rd-null}
 
 -- ---- the code
 

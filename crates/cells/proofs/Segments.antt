@@ -3,20 +3,20 @@
 -- Assumes nothing.
 use Prim.Native.Nat.{ℕ, suc, _+_, _<_, _≤_}
 use native.Mathlib.Omega.{arith}
-use mathlib.Core.Path.{_≡_, refl, sym, ap, _∙_}
-use mathlib.Core.Logic.{_≢_, _⊎_, inl, inr, ⊎-elim}
+use mathlib.Core.Path.{_≡_, sym, _∙_}
+use mathlib.Core.Logic.{_≢_, _⊎_, inl, inr}
 use mathlib.Core.List.{List, [], _∷_, _++_}
+use mathlib.Core.Option.{Option}
 use lib.IntN.{ℤ}
 use lib.ListN.{length, set}
 use Rattle.plain.specs.Turns.{entries, upd}
-use Rattle.plain.proofs.Entries.{entries-same, entries-out, entries-set, entries-snoc, upd-same, upd-other}
+use Rattle.plain.proofs.Entries.{entries-same, entries-set, entries-snoc, upd-same, upd-other}
 use Rattle.cells.specs.View.{at, wr, rd, up, Room}
 use Rattle.cells.specs.Links.{hang}
 use Rattle.cells.specs.Layout.{PE}
 use Rattle.cells.proofs.Slices.{same?, at-wr-same, at-wr-other}
 use Rattle.cells.proofs.Fields.{rd-up-same, rd-up-other}
 use Rattle.cells.proofs.Parents.{rd-hang-other}
-use mathlib.Core.Option.{Option}
 
 -- no number of the part is q
 outside-of : (p k q t : ℕ) → (q < p) ⊎ (p + k ≤ q) → t < k → p + t ≢ q

@@ -1,12 +1,12 @@
 -- The code of the accessors against the view: one law for each way out of a function, its premises in the words of what was called.
 -- Assumes nothing.
-use Prim.Native.Nat.{ℕ, suc, _+_, _-_, _*_, _<_, _≤_}
+use Prim.Native.Nat.{ℕ, _+_, _-_, _*_, _<_, _≤_}
 use native.Mathlib.Omega.{arith}
-use mathlib.Core.Path.{_≡_, refl, sym, ap, _∙_}
+use mathlib.Core.Path.{_≡_, sym, ap, _∙_}
 use mathlib.Core.List.{List}
 use lib.IntN.{ℤ}
 use lib.ListN.{length}
-use Rattle.cells.specs.View.{at, wr, place, within, rd, up, Room, plus}
+use Rattle.cells.specs.View.{at, wr, rd, up, Room, plus}
 use Rattle.cells.proofs.Slices.{at-out, wr-out, plus-sum, plus-cap}
 use Rattle.cells.proofs.Fields.{place-hot, place-table, place-entry, within-node, within-not, within-column, within-columns-not, within-entry, rd-in, rd-out, up-in, up-out, table-end}
 

@@ -9,7 +9,7 @@ use mathlib.Core.Bool.{Bool, true, false, true≢false}
 use mathlib.Core.List.{List, [], _∷_, map}
 use lib.IntN.{ℤ, pos, negsuc, natAbs}
 use lib.Signed.{ltZ}
-use lib.ListN.{length, getD, set}
+use lib.ListN.{length, getD}
 use lib.Seq.{getD-set-same, getD-set-other, ext-getD, slice, slice-empty, slice-cons}
 use Rattle.plain.specs.Turns.{entries}
 use Rattle.cells.specs.View.{nat, at, wr, negative, Holds}

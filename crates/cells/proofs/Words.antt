@@ -1,21 +1,19 @@
 -- A number of the machine goes through its bits: what a test below 0 says, what a cast gives where it fails, and what an operation on two of them is.
 -- Assumes nothing.
-use Prim.Native.Nat.{ℕ, zero, suc, _+_, _-_, _<_, _≤_, _^_}
+use Prim.Native.Nat.{ℕ, _<_, _≤_, _^_}
 use native.Mathlib.Omega.{arith}
 use mathlib.Core.Path.{_≡_, refl, sym, ap, subst, _∙_}
-use mathlib.Core.Bool.{Bool, true, false, true≢false, false≢true}
-use mathlib.Core.List.{List, [], _∷_, _++_}
-use mathlib.Core.Option.{Option, none, some}
-use borrow.Author.Tests.{ltb-true, ltb-false, lt-ltb, le-ltb}
-use lib.Dec.{T, ltb}
-use lib.IntN.{ℤ, pos, negsuc, natAbs, _-ℤ_}
+use mathlib.Core.Bool.{Bool, true, false, true≢false}
+use mathlib.Core.List.{List}
+use borrow.Author.Tests.{ltb-true}
+use lib.Dec.{T}
+use lib.IntN.{ℤ, pos, negsuc, natAbs}
 use lib.Signed.{mag, ltZ, nonNeg}
 use lib.ListN.{length, getD, List·getD-eq-default}
-use mir.Syntax.{Width, w64}
-use mir.Val.{toZ, ofZ, SFits, hbits}
+use mir.Syntax.{Width}
+use mir.Val.{toZ, ofZ, hbits}
 use mir.Facts.{toZ-ofZ}
 use Rattle.cells.specs.View.{nat, at, negative}
-use Rattle.cells.specs.Links.{flipped, coded, decoded, named, linked}
 
 sign : (z : ℤ) → ltZ z (pos 0) ≡ false → T (nonNeg z) × (natAbs z ≡ nat z)
 sign (pos n) e = (tt, refl)

@@ -107,6 +107,10 @@ SEQ = 11
 abbrev pub OFFSET : ℕ
 OFFSET = 12
 
+-- the element that merged row i belongs to; a field of a node
+abbrev pub OWNER : ℕ
+OWNER = 5
+
 -- ---- the cleaned pattern: clean, count, build; nothing reads it later
 
 -- the pointer of column i; n + 1 of them

@@ -24,7 +24,7 @@ at l i = nat (getD l i (pos 0))
 unfoldable pub wr : List ℤ → ℕ → ℕ → List ℤ
 wr l i v = set l i (pos v)
 
--- ---- the scratch: the fields of `Layout`
+-- ---- the scratch: `Layout` names its fields and says what each holds in which phase
 
 -- the cell of field f at i
 unfoldable pub place : ℕ → ℕ → ℕ → ℕ

@@ -1,15 +1,15 @@
 // The memory of the ordering: cells of lent slices, read and written as unsigned numbers. The Rust's vectors are fields of the one scratch slice; where each
 // lies is known here alone. A read outside gives 0 and a store outside does nothing, so no caller has to show an index. The null link is n.
 ghost use mathlib.Core.Path.{_≡_};
-ghost use Prim.Native.Nat.{_+_, _-_, _*_, _<_, _≤_, _^_};
-ghost use lib.ListN.{length, replicate, getD};
+ghost use Prim.Native.Nat.{_-_, _<_, _≤_, _^_};
+ghost use lib.ListN.{length, replicate};
 ghost use lib.IntN.{pos};
 ghost use lib.Signed.{mag};
 ghost use Rattle.cells.specs.View.{at, wr, rd, up, Room, plus, negative};
 ghost use Rattle.cells.specs.Links.{flipped, coded, decoded, named, linked, parent, hang};
 
 // No parent, as the Rust has it.
-pub const EMPTY: i64 = -1;
+const EMPTY: i64 = -1;
 
 // Fields of a node: `rd`, `up`.
 pub const PE: usize = 0;
@@ -60,6 +60,9 @@ pub const STACK: usize = 10;
 pub const SEQ: usize = 11;
 
 pub const OFFSET: usize = 12;
+
+// A field of a node used after it.
+pub const OWNER: usize = 5;
 
 // ---- a cell of the list space
 
@@ -244,19 +247,20 @@ pub fn put_parent(s: &mut [i64], n: usize, i: usize, p: usize)
 
 // ---- slices of 32-bit numbers
 
-// Number `i` of the slice; a negative one counts as 0, and so does one past the end.
-pub fn row_at(rows: &[i32], i: usize) -> usize
-    ensures { λ r. ⌜ (r ≡ at (now (rows .entry)) i) × (r < 2 ^ 31) ⌝ }
-{
-    if i < rows.len() { load32(rows, i) } else { 0 }
-}
-
+// The number in place `i`, which is there; a negative one counts as 0.
 fn load32(l: &[i32], i: usize) -> usize
     requires { ⌜ i < length (now l) ⌝ }
     ensures { λ r. ⌜ (r ≡ at (now (l .entry)) i) × (r < 2 ^ 31) ⌝ }
 {
     let x = l[i];
     if x < 0 { 0 } else { x as usize }
+}
+
+// Number `i` of the slice; a negative one counts as 0, and so does one past the end.
+pub fn row_at(rows: &[i32], i: usize) -> usize
+    ensures { λ r. ⌜ (r ≡ at (now (rows .entry)) i) × (r < 2 ^ 31) ⌝ }
+{
+    if i < rows.len() { load32(rows, i) } else { 0 }
 }
 
 // Is number `i` of the slice below 0?

@@ -25,7 +25,7 @@ use Rattle.definition.specs.Pattern.{Pattern, columnCount, pointer, nnz, column
 
 -- ---- signed numbers that pass a test
 
-count-in : (most : ℕ) (z : ℤ) → outside most z ≡ false → (z ≡ pos (natAbs z)) × (natAbs z ≤ most)
+pub count-in : (most : ℕ) (z : ℤ) → outside most z ≡ false → (z ≡ pos (natAbs z)) × (natAbs z ≤ most)
 unfolding outside
 count-in most (pos k) h = (refl, ltb-false most k (or-false-right (ltb k 0) (ltb most k) h))
 count-in most (negsuc k) h = absurd (false≢true (sym h))
@@ -60,7 +60,7 @@ steps [] f h k l = absurd (omega arith)
 steps (x ∷ xs) f h k l =
     omega (arith, ap (λ (z : ℤ). natAbs (getD (z ∷ xs) k (pos 0))) f, climbing 0 xs (ap (λ (z : ℤ). climbsFrom z xs) (sym f) ∙ h) k (omega arith))
 
-step-is : (xs : List ℤ) → getD xs 0 (pos 0) ≡ pos 0 → climbs xs ≡ true → (k : ℕ) → getD xs k (pos 0) ≡ pos (natAbs (getD xs k (pos 0)))
+pub step-is : (xs : List ℤ) → getD xs 0 (pos 0) ≡ pos 0 → climbs xs ≡ true → (k : ℕ) → getD xs k (pos 0) ≡ pos (natAbs (getD xs k (pos 0)))
 unfolding climbs
 step-is [] f h k = refl
 step-is (x ∷ xs) f h zero = f ∙ ap (λ (z : ℤ). pos (natAbs z)) (sym f)

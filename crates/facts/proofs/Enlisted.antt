@@ -84,7 +84,7 @@ module _ (limit : ℕ) (nbrs : List (List ℕ)) (nb : Neighbourly nbrs) where
   abbrev n : ℕ
   n = length nbrs
 
-  degree-low : (v : ℕ) → v < n → startDegree nbrs v < n
+  pub degree-low : (v : ℕ) → v < n → startDegree nbrs v < n
   degree-low v l =
       let k = length-below n (v ∷ getD nbrs v []) (nb .own v, nb .distinct v)
       (λ x m. member-cases (x < n) x v (getD nbrs v []) m (λ e. omega arith) (λ ne h. nb .inside v x h)) in

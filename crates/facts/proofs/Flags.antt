@@ -19,7 +19,7 @@ use Rattle.facts.proofs.Cases.{live-cases, pivot-live}
 use Rattle.facts.proofs.Collected.{collected-var}
 use Rattle.facts.proofs.Collections.{short-collected, few-survivors}
 use Rattle.facts.proofs.Enlisted.{inv-start}
-use Rattle.facts.proofs.External.{sharing, counter}
+use Rattle.facts.proofs.External.{counter}
 use Rattle.facts.proofs.Invariant.{var-weighs}
 use Rattle.facts.proofs.Pivots.{Pivoted}
 use Rattle.facts.proofs.Progress.{progress}
@@ -27,6 +27,7 @@ use Rattle.facts.proofs.Start.{Neighbourly}
 use Rattle.facts.proofs.Step.{stepped}
 use Rattle.facts.proofs.Theorem.{inv-eliminate, inv-run, gone-most}
 use Rattle.facts.proofs.Weighed.{Weighed, weighed-start, weighed-eliminate, told-keeps}
+use Rattle.facts.specs.Counter.{sharing}
 use Rattle.facts.specs.Invariant.{Var, Live, Inv}
 
 -- ---- Z4

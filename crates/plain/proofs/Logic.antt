@@ -54,6 +54,23 @@ pub or-false-right : (a b : Bool) → a || b ≡ false → b ≡ false
 or-false-right true b h = absurd (false≢true (sym h))
 or-false-right false b h = h
 
+-- a chain of tests is its first test where that decides, and else the rest
+pub or-first : (a b : Bool) → a ≡ true → a ≡ a || b
+or-first true b h = refl
+or-first false b h = absurd (false≢true h)
+
+pub or-rest : (a b : Bool) → a ≡ false → b ≡ a || b
+or-rest true b h = absurd (false≢true (sym h))
+or-rest false b h = refl
+
+pub and-first : (a b : Bool) → a ≡ false → a ≡ a && b
+and-first true b h = absurd (false≢true (sym h))
+and-first false b h = refl
+
+pub and-rest : (a b : Bool) → a ≡ true → b ≡ a && b
+and-rest true b h = refl
+and-rest false b h = absurd (false≢true h)
+
 pub none-if : (b : Bool) → (b ≡ true → ⊥) → b ≡ false
 none-if true h = absurd (h refl)
 none-if false h = refl

@@ -154,6 +154,26 @@ pub delete-apart : (x y : ℕ) (ys : List ℕ) → member y (delete x ys) ≡ tr
 unfolding delete
 delete-apart x y ys h = eqb-false x y (not-back (eqb x y) (kept-passes y (λ z. not (eqb x z)) ys h))
 
+pub delete-nil : (x : ℕ) → delete x [] ≡ []
+unfolding delete keep
+delete-nil x = refl
+
+pub delete-here : (x y : ℕ) (ys : List ℕ) → y ≡ x → delete x (y ∷ ys) ≡ delete x ys
+unfolding delete keep
+delete-here x y ys e = rw (eq-eqb x y (sym e))
+
+pub delete-there : (x y : ℕ) (ys : List ℕ) → y ≢ x → delete x (y ∷ ys) ≡ y ∷ delete x ys
+unfolding delete keep
+delete-there x y ys n = rw (ne-eqb x y (λ e. n (sym e)))
+
+pub delete-fresh : (x : ℕ) (ys : List ℕ) → member x ys ≡ false → delete x ys ≡ ys
+unfolding delete
+delete-fresh x ys h = keep-every (λ z. not (eqb x z)) ys (λ z m. rw (ne-eqb x z (apart x z ys h m)))
+
+pub delete-gone : (x : ℕ) (ys : List ℕ) → member x (delete x ys) ≡ false
+unfolding delete
+delete-gone x ys = not-kept-at x (λ z. not (eqb x z)) ys (rw (eq-eqb x x refl))
+
 -- ---- in another order
 
 pub member-rotate : (x : ℕ) (xs : List ℕ) → member x (rotate xs) ≡ member x xs

@@ -33,7 +33,7 @@ loop-again : tie.Need-loop-again Inv-loop μ-loop
 loop-again c =
     let s = c .before in
     let l₀ = s .before .args .l .now in
-    (length-set (s .loop .l) _ (pos 0) ∙ s .loop .inv .0, omega arith, fill-more (pos 0) l₀ (s .loop .l) (s .loop .left) (c .loop-test .taken) (s .loop .inv .1) (s .loop .inv .2))
+    (length-set (s .loop .l) _ (pos 0) ∙ s .loop .inv .0, omega arith, fill-more (pos 0) l₀ (s .loop .l) (s .loop .left) (omega arith) (omega arith) (s .loop .inv .2))
 
 same-length : tie.Need-same-length Inv-loop μ-loop
 same-length c = c .before .loop .inv .0
@@ -41,7 +41,7 @@ same-length c = c .before .loop .inv .0
 returns : tie.Need-returns Inv-loop μ-loop
 returns c =
     let s = c .before in
-    fill-all (pos 0) (s .before .args .l .now) (s .loop .l) (s .loop .left) (c .loop-test .left) (s .loop .inv .2)
+    fill-all (pos 0) (s .before .args .l .now) (s .loop .l) (s .loop .left) (omega arith) (s .loop .inv .2)
 
 pub clear-spec : {M : Type 1} → statement M
 clear-spec =

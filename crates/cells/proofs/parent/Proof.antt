@@ -1,5 +1,4 @@
 -- `cells::parent` meets its contract. Assumes nothing.
-use native.Mathlib.Omega.{arith}
 use Rattle.cells.proofs.Coding.{parent-some, parent-none}
 use borrow.Author.Needs.{needs}
 use Rattle.cells.proofs.parent.Statement.{statement}

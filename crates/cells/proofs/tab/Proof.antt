@@ -1,5 +1,4 @@
 -- `cells::tab` meets its contract: the cell is inside the slice. Assumes nothing.
-use borrow.Author.Needs.{needs}
 use native.Mathlib.Omega.{arith}
 use Rattle.cells.proofs.Steps.{table-read, null-read, table-inside}
 use Rattle.cells.proofs.tab.Statement.{statement}
