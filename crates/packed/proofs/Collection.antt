@@ -10,8 +10,6 @@ use mathlib.Core.Path.{_∙_, _≡_, ap, refl, sym}
 use lib.Dec.{eqb}
 use lib.IntN.{ℤ}
 use lib.ListN.{length}
-use Rattle.plain.proofs.Turns.{turn}
-use Rattle.cells.proofs.Laws.{mem}
 use Rattle.cells.proofs.Slices.{split}
 use Rattle.cells.specs.Layout.{LEN, ORD, PE}
 use Rattle.cells.specs.Links.{parent}

@@ -9,3 +9,17 @@ pub mod Spaces
 pub mod Waiting
 pub mod Packing
 pub mod Collection
+pub mod Trays
+pub mod Gathers
+pub mod Taking
+pub mod Picked
+pub mod Readings
+pub mod Newcomer
+pub mod Dropping
+pub mod Settling
+pub mod Outside
+pub mod Inside
+pub mod Keeping
+pub mod Agreement
+pub mod Beginning
+pub mod Example

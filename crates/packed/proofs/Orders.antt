@@ -7,7 +7,7 @@ use mathlib.Core.Path.{_∙_, _≡_, ap, sym}
 use Rattle.cells.proofs.Slices.{same?}
 use Rattle.cells.specs.View.{at}
 use Rattle.packed.specs.Places.{Places, Sorted, Waits}
-use Rattle.packed.proofs.Frame.{Stays, ends}
+use Rattle.packed.proofs.Frame.{Stays}
 
 -- the same table by another name
 pub sorted-by : (f : Places) (ob oc : ℕ → ℕ) → ((t : ℕ) → oc t ≡ ob t) → (cnt base lim : ℕ) → Sorted f ob cnt base lim → Sorted f oc cnt base lim

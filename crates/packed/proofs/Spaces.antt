@@ -4,7 +4,7 @@ use Prim.Native.Nat.{_+_, _<_, _≤_, ℕ}
 use native.Mathlib.Omega.{arith}
 use mathlib.Core.Bool.{false}
 use mathlib.Core.List.{List, []}
-use mathlib.Core.Logic.{_≢_, _⊎_, inl, inr}
+use mathlib.Core.Logic.{_≢_, _⊎_, inl, inr, ⊎-elim}
 use mathlib.Core.Path.{_≡_, ap, refl, sym}
 use borrow.Author.Tests.{lt-ltb}
 use lib.Dec.{eqb}
@@ -14,12 +14,12 @@ use Rattle.plain.proofs.Entries.{entries-none}
 use Rattle.plain.specs.Turns.{entries, upd}
 use Rattle.cells.proofs.Fields.{room-up}
 use Rattle.cells.proofs.Laws.{mem, rd-up-field, room-yes}
-use Rattle.cells.proofs.Slices.{same?}
+use Rattle.cells.proofs.Slices.{same?, split}
 use Rattle.cells.specs.Layout.{LEN, ORD, PE}
 use Rattle.cells.specs.View.{Room, at, rd, up, wr}
-use Rattle.packed.specs.Places.{Mem, Space, places}
-use Rattle.packed.proofs.Frame.{ends, other-field}
-use Rattle.packed.proofs.Objects.{Off, rewritten, stored}
+use Rattle.packed.specs.Places.{Mem, Owns, Space, places}
+use Rattle.packed.proofs.Frame.{ends, mem-by, other-field}
+use Rattle.packed.proofs.Objects.{Off, lowered, renamed, rewritten, stored}
 use Rattle.packed.proofs.Orders.{sorted-by, sorted-fewer}
 
 -- lists by rising number and place, and no table yet
@@ -93,3 +93,40 @@ module _ (n : ℕ) (X : ℕ → List ℕ) (l s : List ℤ) (cnt base lim : ℕ) 
     -- j is dead
     pub space-dropped : j < n → Space n (upd X j []) l (up n LEN s j 0) cnt base lim
     space-dropped hj = space-rewritten hj l 0 [] (omega arith) refl (λ q a. refl) (entries-none (at l) (rd n PE s j))
+
+  -- the same lists by another name
+  pub space-renamed : (Y : ℕ → List ℕ) → ((i : ℕ) → X i ≡ Y i) → Space n Y l s cnt base lim
+  space-renamed Y e = record { lists = renamed l (places n s) lim X (h .lists) Y e; room = h .room; sorted = h .sorted }
+
+  -- a scratch with the same places and the same table
+  pub space-same : (s′ : List ℤ) → Room n s′ → ((i : ℕ) → rd n PE s′ i ≡ rd n PE s i) → ((i : ℕ) → rd n LEN s′ i ≡ rd n LEN s i) → ((t : ℕ) → rd n ORD s′ t ≡ rd n ORD s t)
+      → Space n X l s′ cnt base lim
+  space-same s′ room p q r =
+      record {
+        lists = mem-by l (places n s) lim X (h .lists) (places n s′) (λ i. record { pe = p i; len = q i });
+        room = room;
+        sorted = sorted-by (places n s′) (rd n ORD s) (rd n ORD s′) r cnt base lim
+            (sorted-fewer (places n s) (places n s′) (λ i x. (p i, omega (arith, q i))) (rd n ORD s) cnt base lim lim (omega arith) (h .sorted));
+      }
+
+  -- another limit
+  pub space-lowered : (e : ℕ) → base ≤ e → e ≤ length l → ((i q : ℕ) → Owns (places n s) i q → q < e) → Space n X l s cnt base e
+  space-lowered e a b c =
+      let g = h .sorted in
+      record {
+        lists = lowered l (places n s) lim X (h .lists) e b c;
+        room = h .room;
+        sorted = record { low = g .low; edge = g .edge; over = g .over; high = g .high; all = g .all; wide = a };
+      }
+
+  -- the last list ends at the limit
+  pub space-trimmed : (j : ℕ) → base ≤ rd n PE s j → rd n PE s j ≤ lim → ((i q : ℕ) → i ≢ j → Owns (places n s) i q → q < rd n PE s j)
+      → Space n X l s cnt base (rd n PE s j + rd n LEN s j)
+  space-trimmed j a b c =
+      space-lowered (rd n PE s j + rd n LEN s j) (omega arith)
+      (⊎-elim (λ z. omega (arith, ends l (places n s) lim X (h .lists) j z, h .lists .fits)) (λ z. omega (arith, h .lists .fits)) (split 0 (rd n LEN s j)))
+      (λ i q o. below i q o (same? i j))
+    where
+      below : (i q : ℕ) → Owns (places n s) i q → (i ≡ j) ⊎ (i ≢ j) → q < rd n PE s j + rd n LEN s j
+      below i q o (inl e) = omega (arith, o .to, ap (rd n PE s) e, ap (rd n LEN s) e)
+      below i q o (inr d) = omega (arith, c i q d o)

@@ -5,10 +5,9 @@ use mathlib.Core.List.{List}
 use mathlib.Core.Path.{_≡_, ap}
 use borrow.Author.Tests.{le-ltb, lt-ltb}
 use lib.IntN.{ℤ}
-use Rattle.cells.proofs.Laws.{mem}
-use Rattle.cells.specs.Layout.{LEN, ORD, PE}
-use Rattle.cells.specs.View.{plus, rd, up}
-use Rattle.packed.specs.Model.{Heap, copied, heap, movedDown, movedLow, movedNew, movedNext, movedOne, packedAll, packedLow}
+use Rattle.cells.specs.Layout.{LEN, ORD, PE, TMP}
+use Rattle.cells.specs.View.{plus, rd, up, wr}
+use Rattle.packed.specs.Model.{Heap, copied, entered, heap, movedDown, movedLow, movedNew, movedNext, movedOne, packedAll, packedLow}
 use Rattle.packed.specs.Places.{due, places}
 
 -- ---- the collection
@@ -44,3 +43,12 @@ module _ (n base lim cnt : ℕ) (l s : List ℤ) (l₁ s₁ : List ℤ) (b : ℕ
   pub whole-all : (x : Heap) → x ≡ movedNew n lim cnt (heap l₁ s₁ b) → x ≡ packedAll n base lim cnt l s
   unfolding packedAll packedLow
   whole-all x g = rw (← h) g
+
+-- ---- a list laid at a place
+
+pub lay-step : (n : ℕ) (s l : List ℤ) (t e x : ℕ) (r : List ℤ) → x ≡ rd n TMP s t → r ≡ wr l e x → r ≡ wr l e (rd n TMP s t)
+lay-step n s l t e x r hx hr = rw (← hx) hr
+
+pub enter-step : (n : ℕ) (s : List ℤ) (cnt j e k : ℕ) (a b c : List ℤ) → a ≡ up n PE s j e → b ≡ up n LEN a j k → c ≡ up n ORD b cnt j → c ≡ entered n s cnt j e k
+unfolding entered
+enter-step n s cnt j e k a b c ha hb hc = rw (← ha, ← hb) hc

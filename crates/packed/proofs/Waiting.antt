@@ -5,7 +5,6 @@ use native.Mathlib.Omega.{arith}
 use mathlib.Core.Logic.{_≢_, _⊎_, inl, inr, ⊎-elim}
 use mathlib.Core.Path.{_∙_, _≡_, ap, subst⁻¹, sym}
 use borrow.Author.Tests.{le-leb, le-ltb, lt-leb, lt-ltb}
-use Rattle.plain.proofs.Turns.{turn}
 use Rattle.cells.proofs.Slices.{same?, split}
 use Rattle.packed.specs.Places.{Owns, Places, Queue, Waits, due, share, sumTo}
 use Rattle.packed.proofs.Frame.{Stays}

@@ -6,7 +6,7 @@ use mathlib.Core.List.{List}
 use lib.Dec.{ltb}
 use lib.IntN.{ℤ}
 use Rattle.plain.specs.Turns.{times}
-use Rattle.cells.specs.Layout.{ORD, PE}
+use Rattle.cells.specs.Layout.{LEN, ORD, PE, TMP}
 use Rattle.cells.specs.View.{at, plus, rd, up, wr}
 use Rattle.packed.specs.Places.{due, places}
 
@@ -51,3 +51,13 @@ packedLow n base l s = movedLow n base n (heap l s 0)
 
 unfoldable pub packedAll : ℕ → ℕ → ℕ → ℕ → List ℤ → List ℤ → Heap
 packedAll n base lim cnt l s = movedNew n lim cnt (packedLow n base l s)
+
+-- ---- a list laid at a place
+
+-- the first k numbers of the scratch table, copied to e on
+unfoldable pub laid : ℕ → List ℤ → ℕ → ℕ → List ℤ → List ℤ
+laid n s e k l = times k (λ t m. wr m (e + t) (rd n TMP s t)) l
+
+-- object j, with k numbers from e on, is the last of the order
+unfoldable pub entered : ℕ → List ℤ → ℕ → ℕ → ℕ → ℕ → List ℤ
+entered n s cnt j e k = up n ORD (up n LEN (up n PE s j e) j k) cnt j

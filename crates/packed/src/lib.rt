@@ -3,8 +3,11 @@
 ghost use mathlib.Core.Path.{_≡_};
 ghost use Prim.Native.Nat.{_+_, _<_, _≤_, _^_};
 ghost use Rattle.cells.specs.View.{Room, at, wr, rd};
+ghost use Rattle.cells.specs.Layout.{TMP};
 ghost use Rattle.packed.specs.Places.{places, due};
-ghost use Rattle.packed.specs.Model.{copied, heap, movedOne, movedLow, movedNext, movedNew, packedLow, packedAll};
+ghost use Rattle.packed.specs.Model.{copied, heap, movedOne, movedLow, movedNext, movedNew, packedLow, packedAll, laid, entered};
+ghost use Rattle.packed.specs.Tray.{Small, taking, counted, passedBy, took, tookPart, tookElement, tookElements, ownPart, tookAll};
+ghost use Rattle.packed.specs.Gather.{droppedAt, droppedPart, droppedAll, addedLength, allLengths, cleared, collectedRest, madeRoom, outside, Brief, summed, gatheredOutside, inside, gatheredInside, cut, keptOne, keptPart};
 
 // The end of the lists that go by number, and the end of all.
 pub struct Ends {
@@ -120,4 +123,417 @@ pub fn collect(
     let b = move_low(lists, s, n, base, 0);
     let e = move_new(lists, s, n, lim, cnt, b);
     Ends { base: b, end: e }
+}
+
+// ---- a list laid at a place
+
+// Cell `e` of the lists becomes number `t` of the scratch table.
+pub fn lay_one(lists: &mut [i64], s: &[i64], n: usize, t: usize, e: usize)
+    requires { ⌜ Room n (now s) ⌝ }
+    ensures { λ _. ⌜ now (lists .exit) ≡ wr (now (lists .entry)) e (rd n TMP (now (s .entry)) t) ⌝ }
+{
+    let x = cells::tab(s, n, cells::TMP, t);
+    cells::poke(lists, e, x);
+}
+
+// The first `k` numbers of the scratch table, copied to `e` on.
+pub fn lay(lists: &mut [i64], s: &[i64], n: usize, e: usize, k: usize)
+    requires { ⌜ Room n (now s) × (e < 2 ^ 63) × (k < 2 ^ 63) ⌝ }
+    ensures { λ _. ⌜ now (lists .exit) ≡ laid n (now (s .entry)) e k (now (lists .entry)) ⌝ }
+{
+    for t in 0..k {
+        lay_one(lists, s, n, t, e + t);
+    }
+}
+
+// Object `j` gets the first `k` numbers of the scratch table as its list, at `e`, and is the last of the order.
+pub fn enter(lists: &mut [i64], s: &mut [i64], n: usize, cnt: usize, j: usize, e: usize, k: usize)
+    requires { ⌜ Room n (now s) × (e < 2 ^ 63) × (k < 2 ^ 63) × (j < 2 ^ 63) ⌝ }
+    ensures { λ _. ⌜ (now (lists .exit) ≡ laid n (now (s .entry)) e k (now (lists .entry))) × (now (s .exit) ≡ entered n (now (s .entry)) cnt j e k) × Room n (now (s .exit)) ⌝ }
+{
+    lay(lists, s, n, e, k);
+    cells::up(s, n, cells::PE, j, e);
+    cells::up(s, n, cells::LEN, j, k);
+    cells::put(s, n, cells::ORD, cnt, j);
+}
+
+// ---- a gather: numbers go from lists into the scratch table, nothing moving
+
+// The numbers in the table, the entries read, and how many had been read with the entry that found no place (0: each found one).
+pub struct Tray {
+    pub cnt: usize,
+    pub reads: usize,
+    pub mark: usize,
+}
+
+// An entry is collected, with which `reads` are read.
+pub fn count(quota: usize, reads: usize, t: Tray) -> Tray
+    requires { ⌜ Small t × (reads < 2 ^ 63) ⌝ }
+    ensures { λ r. ⌜ (r ≡ counted quota reads t) × Small r ⌝ }
+{
+    let c = cells::plus(t.cnt, 1);
+    if t.cnt == quota {
+        Tray {
+            cnt: c,
+            reads: reads,
+            mark: reads,
+        }
+    } else {
+        Tray {
+            cnt: c,
+            reads: reads,
+            mark: t.mark,
+        }
+    }
+}
+
+// One entry more is read, and not collected.
+pub fn pass(t: Tray) -> Tray
+    requires { ⌜ Small t ⌝ }
+    ensures { λ r. ⌜ (r ≡ passedBy t) × Small r ⌝ }
+{
+    let k = cells::plus(t.reads, 1);
+    Tray {
+        cnt: t.cnt,
+        reads: k,
+        mark: t.mark,
+    }
+}
+
+// Reads the entry `x`: it goes into the table if it is wanted.
+pub fn take_one(s: &mut [i64], n: usize, x: usize, quota: usize, t: Tray) -> Tray
+    requires { ⌜ Room n (now s) × (x < 2 ^ 63) × Small t ⌝ }
+    ensures { λ r. ⌜ (taking (now (s .exit)) r ≡ took n quota x (taking (now (s .entry)) t)) × Room n (now (s .exit)) × Small r ⌝ }
+{
+    let w = cells::rd(s, n, cells::WANT, x);
+    if 0 < w {
+        cells::up(s, n, cells::WANT, x, 0);
+        cells::put(s, n, cells::TMP, t.cnt, x);
+        let k = cells::plus(t.reads, 1);
+        count(quota, k, t)
+    } else {
+        pass(t)
+    }
+}
+
+// The same of the number in cell `q` of the lists.
+pub fn take_at(lists: &[i64], s: &mut [i64], n: usize, q: usize, quota: usize, t: Tray) -> Tray
+    requires { ⌜ Room n (now s) × Small t ⌝ }
+    ensures { λ r. ⌜ (taking (now (s .exit)) r ≡ took n quota (at (now (lists .entry)) q) (taking (now (s .entry)) t)) × Room n (now (s .exit)) × Small r ⌝ }
+{
+    let x = cells::peek(lists, q);
+    take_one(s, n, x, quota, t)
+}
+
+// The same of each of the `k` numbers from `p` on.
+pub fn take_part(
+    lists: &[i64],
+    s: &mut [i64],
+    n: usize,
+    p: usize,
+    k: usize,
+    quota: usize,
+    start: Tray,
+) -> Tray
+    requires { ⌜ Room n (now s) × (p < 2 ^ 63) × (k < 2 ^ 63) × Small start ⌝ }
+    ensures { λ r. ⌜ (taking (now (s .exit)) r ≡ tookPart n quota (now (lists .entry)) p k (taking (now (s .entry)) start)) × Room n (now (s .exit)) × Small r ⌝ }
+{
+    let mut t = start;
+    for i in 0..k {
+        t = take_at(lists, s, n, p + i, quota, t);
+    }
+    t
+}
+
+// Reads the number of an element in cell `q`, and then the element's own list.
+pub fn take_element(lists: &[i64], s: &mut [i64], n: usize, q: usize, quota: usize, t: Tray) -> Tray
+    requires { ⌜ Room n (now s) × Small t ⌝ }
+    ensures { λ r. ⌜ (taking (now (s .exit)) r ≡ tookElement n quota (now (lists .entry)) q (taking (now (s .entry)) t)) × Room n (now (s .exit)) × Small r ⌝ }
+{
+    let e = cells::peek(lists, q);
+    let p = cells::rd(s, n, cells::PE, e);
+    let k = cells::rd(s, n, cells::LEN, e);
+    let u = pass(t);
+    take_part(lists, s, n, p, k, quota, u)
+}
+
+// The same of each of the `k` numbers from `p` on.
+pub fn take_elements(
+    lists: &[i64],
+    s: &mut [i64],
+    n: usize,
+    p: usize,
+    k: usize,
+    quota: usize,
+    start: Tray,
+) -> Tray
+    requires { ⌜ Room n (now s) × (p < 2 ^ 63) × (k < 2 ^ 63) × Small start ⌝ }
+    ensures { λ r. ⌜ (taking (now (s .exit)) r ≡ tookElements n quota (now (lists .entry)) p k (taking (now (s .entry)) start)) × Room n (now (s .exit)) × Small r ⌝ }
+{
+    let mut t = start;
+    for i in 0..k {
+        t = take_element(lists, s, n, p + i, quota, t);
+    }
+    t
+}
+
+// A part of the list space.
+pub struct Part {
+    pub from: usize,
+    pub len: usize,
+}
+
+// The part of the list of `me` behind its elements.
+pub fn own_part(s: &[i64], n: usize, me: usize) -> Part
+    requires { ⌜ Room n (now s) ⌝ }
+    ensures { λ r. ⌜ (r ≡ ownPart n (now (s .entry)) me) × (r .from < 2 ^ 63) × (r .len < 2 ^ 63) ⌝ }
+{
+    let p = cells::rd(s, n, cells::PE, me);
+    let k = cells::rd(s, n, cells::ELEN, me);
+    let len = cells::rd(s, n, cells::LEN, me);
+    let from = cells::plus(p, k);
+    let rest = cells::less(len, k);
+    Part {
+        from: from,
+        len: rest,
+    }
+}
+
+// Reads the lists of the elements of `me` in order, and then its own variables.
+pub fn take_all(lists: &[i64], s: &mut [i64], n: usize, me: usize, quota: usize) -> Tray
+    requires { ⌜ Room n (now s) ⌝ }
+    ensures { λ r. ⌜ (taking (now (s .exit)) r ≡ tookAll n quota (now (lists .entry)) (now (s .entry)) me) × Room n (now (s .exit)) × Small r ⌝ }
+{
+    let p = cells::rd(s, n, cells::PE, me);
+    let k = cells::rd(s, n, cells::ELEN, me);
+    let t = take_elements(
+        lists,
+        s,
+        n,
+        p,
+        k,
+        quota,
+        Tray {
+            cnt: 0,
+            reads: 0,
+            mark: 0,
+        },
+    );
+    let own = own_part(s, n, me);
+    take_part(lists, s, n, own.from, own.len, quota, t)
+}
+
+// ---- lists that are read are freed
+
+// The object whose number is in cell `q` is dead.
+pub fn drop_at(lists: &[i64], s: &mut [i64], n: usize, q: usize)
+    requires { ⌜ Room n (now s) ⌝ }
+    ensures { λ _. ⌜ (now (s .exit) ≡ droppedAt n (now (lists .entry)) q (now (s .entry))) × Room n (now (s .exit)) ⌝ }
+{
+    let e = cells::peek(lists, q);
+    cells::up(s, n, cells::LEN, e, 0);
+}
+
+// The same of each of the `k` numbers from `p` on.
+pub fn drop_part(lists: &[i64], s: &mut [i64], n: usize, p: usize, k: usize)
+    requires { ⌜ Room n (now s) × (p < 2 ^ 63) × (k < 2 ^ 63) ⌝ }
+    ensures { λ _. ⌜ (now (s .exit) ≡ droppedPart n (now (lists .entry)) p k (now (s .entry))) × Room n (now (s .exit)) ⌝ }
+{
+    for t in 0..k {
+        drop_at(lists, s, n, p + t);
+    }
+}
+
+// `me` and its elements are dead.
+pub fn drop_all(lists: &[i64], s: &mut [i64], n: usize, me: usize)
+    requires { ⌜ Room n (now s) ⌝ }
+    ensures { λ _. ⌜ (now (s .exit) ≡ droppedAll n (now (lists .entry)) me (now (s .entry))) × Room n (now (s .exit)) ⌝ }
+{
+    let p = cells::rd(s, n, cells::PE, me);
+    let k = cells::rd(s, n, cells::ELEN, me);
+    drop_part(lists, s, n, p, k);
+    cells::up(s, n, cells::LEN, me, 0);
+}
+
+// The length of the list of `j`, added.
+pub fn add_length(s: &[i64], n: usize, j: usize, sum: usize) -> usize
+    requires { ⌜ Room n (now s) × (sum < 2 ^ 63) ⌝ }
+    ensures { λ r. ⌜ (r ≡ addedLength n (now (s .entry)) j sum) × (r < 2 ^ 63) ⌝ }
+{
+    let k = cells::rd(s, n, cells::LEN, j);
+    cells::plus(sum, k)
+}
+
+// The cells that all lists hold.
+pub fn all_lengths(s: &[i64], n: usize) -> usize
+    requires { ⌜ Room n (now s) ⌝ }
+    ensures { λ r. ⌜ (r ≡ allLengths n (now (s .entry))) × (r < 2 ^ 63) ⌝ }
+{
+    let mut sum = 0;
+    for j in 0..n {
+        sum = add_length(s, n, j, sum);
+    }
+    sum
+}
+
+// ---- the new element's place
+
+// A collection of what is left when `me` and its elements are freed. The end is where it stands in the middle of the reading, with `mark` entries read.
+pub fn collect_rest(
+    lists: &mut [i64],
+    s: &mut [i64],
+    n: usize,
+    me: usize,
+    base: usize,
+    lim: usize,
+    cnt: usize,
+    mark: usize,
+) -> Ends
+    requires { ⌜ Room n (now s) ⌝ }
+    ensures { λ r. ⌜ (cleared (now (lists .exit)) (now (s .exit)) r ≡ collectedRest n me base lim cnt mark (now (lists .entry)) (now (s .entry))) × Room n (now (s .exit)) × (r .end < 2 ^ 63) ⌝ }
+{
+    let all = all_lengths(s, n);
+    drop_all(lists, s, n, me);
+    let ends = collect(lists, s, n, base, lim, cnt);
+    let end = cells::less(all, mark);
+    Ends {
+        base: ends.base,
+        end: end,
+    }
+}
+
+// `me` and its elements are freed, with a collection if the reading met the end of the room.
+pub fn make_room(
+    lists: &mut [i64],
+    s: &mut [i64],
+    n: usize,
+    me: usize,
+    base: usize,
+    lim: usize,
+    cnt: usize,
+    mark: usize,
+) -> Ends
+    requires { ⌜ Room n (now s) × (lim < 2 ^ 63) ⌝ }
+    ensures { λ r. ⌜ (cleared (now (lists .exit)) (now (s .exit)) r ≡ madeRoom n me base lim cnt mark (now (lists .entry)) (now (s .entry))) × Room n (now (s .exit)) × (r .end < 2 ^ 63) ⌝ }
+{
+    if 0 < mark {
+        collect_rest(lists, s, n, me, base, lim, cnt, mark)
+    } else {
+        drop_all(lists, s, n, me);
+        Ends {
+            base: base,
+            end: lim,
+        }
+    }
+}
+
+// A new element: its place and length, the free end behind it, and whether a collection happened (1) or not (0).
+pub struct Made {
+    pub start: usize,
+    pub count: usize,
+    pub free: usize,
+    pub base: usize,
+    pub made: usize,
+    pub collected: usize,
+}
+
+// The numbers that a gather leaves.
+pub fn summed(ends: Ends, t: Tray, made: usize) -> Made
+    requires { ⌜ Small t × (ends .end < 2 ^ 63) × (made < 2 ^ 63) ⌝ }
+    ensures { λ r. ⌜ (r ≡ summed ends t made) × Brief r ⌝ }
+{
+    let free = cells::plus(ends.end, t.cnt);
+    let more = cells::plus(made, 1);
+    let c = if 0 < t.mark { 1 } else { 0 };
+    Made {
+        start: ends.end,
+        count: t.cnt,
+        free: free,
+        base: ends.base,
+        made: more,
+        collected: c,
+    }
+}
+
+// The list of the new element `me`, from the lists of its elements in order and its own variables, stored behind all others. `base` is the end of the lists
+// that go by number, `lim` the next free place, `made` the number of elements in the order.
+pub fn gather_outside(
+    lists: &mut [i64],
+    s: &mut [i64],
+    n: usize,
+    me: usize,
+    base: usize,
+    lim: usize,
+    made: usize,
+) -> Made
+    requires { ⌜ Room n (now s) × (me < 2 ^ 63) × (lim < 2 ^ 63) × (made < 2 ^ 63) ⌝ }
+    ensures { λ r. ⌜ (outside (now (lists .exit)) (now (s .exit)) r ≡ gatheredOutside n me base lim made (now (lists .entry)) (now (s .entry))) × Room n (now (s .exit)) × Brief r ⌝ }
+{
+    let quota = cells::less(lists.len(), lim);
+    let t = take_all(lists, s, n, me, quota);
+    let ends = make_room(lists, s, n, me, base, lim, made, t.mark);
+    enter(lists, s, n, made, me, ends.end, t.cnt);
+    summed(ends, t, made)
+}
+
+// The list of the new element `me`, which has no elements, from its own variables, in its own place. The result is its length.
+pub fn gather_in_place(lists: &mut [i64], s: &mut [i64], n: usize, me: usize) -> usize
+    requires { ⌜ Room n (now s) ⌝ }
+    ensures { λ r. ⌜ (inside (now (lists .exit)) (now (s .exit)) r ≡ gatheredInside n me (now (lists .entry)) (now (s .entry))) × Room n (now (s .exit)) × (r < 2 ^ 63) ⌝ }
+{
+    let p = cells::rd(s, n, cells::PE, me);
+    let k = cells::rd(s, n, cells::LEN, me);
+    let t = take_part(
+        lists,
+        s,
+        n,
+        p,
+        k,
+        k,
+        Tray {
+            cnt: 0,
+            reads: 0,
+            mark: 0,
+        },
+    );
+    lay(lists, s, n, p, t.cnt);
+    cells::up(s, n, cells::LEN, me, t.cnt);
+    t.cnt
+}
+
+// ---- some of a list kept, in its own place
+
+// Cell `e` becomes the number in cell `q`, and one more is kept, if field `f` of that number is not 0.
+pub fn keep_one(
+    lists: &mut [i64],
+    s: &[i64],
+    n: usize,
+    f: usize,
+    q: usize,
+    e: usize,
+    cnt: usize,
+) -> usize
+    requires { ⌜ (f < 8) × Room n (now s) × (cnt < 2 ^ 63) ⌝ }
+    ensures { λ r. ⌜ (cut (now (lists .exit)) r ≡ keptOne n f (now (s .entry)) q e (cut (now (lists .entry)) cnt)) × (r < 2 ^ 63) ⌝ }
+{
+    let x = cells::peek(lists, q);
+    let w = cells::rd(s, n, f, x);
+    if 0 < w {
+        cells::poke(lists, e, x);
+        cells::plus(cnt, 1)
+    } else {
+        cnt
+    }
+}
+
+// Of the `k` numbers from `p` on, those whose field `f` is not 0, in order from `p` on. The result is how many they are.
+pub fn keep_in_place(lists: &mut [i64], s: &[i64], n: usize, f: usize, p: usize, k: usize) -> usize
+    requires { ⌜ (f < 8) × Room n (now s) × (p < 2 ^ 63) × (k < 2 ^ 63) ⌝ }
+    ensures { λ r. ⌜ (cut (now (lists .exit)) r ≡ keptPart n f (now (s .entry)) p k (now (lists .entry))) × (r < 2 ^ 63) ⌝ }
+{
+    let mut cnt = 0;
+    for t in 0..k {
+        cnt = keep_one(lists, s, n, f, p + t, p + cnt, cnt);
+    }
+    cnt
 }

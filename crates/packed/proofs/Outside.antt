@@ -1,0 +1,266 @@
+-- The gather of a new element's list outside of its old place (PROOF-PLAN 4.5): `gathered-rep`. At most one collection, of whole lists only; it happens exactly
+-- where definition C has it, and the free end is the one of definition C.
+-- Assumes nothing.
+use Prim.Native.Nat.{_+_, _-_, _<_, _^_, _≤_, suc, ℕ}
+use native.Mathlib.Omega.{arith}
+use mathlib.Core.Bool.{Bool, _||_, cond, false, true}
+use mathlib.Core.List.{List, [], _++_, _∷_, flatMap, foldl}
+use mathlib.Core.Logic.{_≢_, _⊎_, inl, inr, ⊎-elim}
+use mathlib.Core.Path.{_∙_, _≡_, ap, refl, subst⁻¹, sym}
+use borrow.Author.Tests.{lt-ltb}
+use lib.Dec.{eqb}
+use lib.IntN.{ℤ}
+use lib.ListN.{List·getD-eq-default, getD, length, length-append, length-map}
+use Rattle.plain.proofs.Entries.{entries-same, upd-other, upd-same}
+use Rattle.plain.proofs.Members.{append-either, member-append, member-cases, member-nil, no-member, not-cons}
+use Rattle.plain.proofs.Repeats.{distinct-snoc, length-below}
+use Rattle.plain.proofs.Sums.{total-append, total-one}
+use Rattle.plain.specs.Lists.{member, total}
+use Rattle.plain.specs.Members.{Distinct, In}
+use Rattle.plain.specs.Turns.{entries, firsts, upd}
+use Rattle.definition.specs.Room.{Read}
+use Rattle.cells.proofs.Slices.{plus-sum, same?, split}
+use Rattle.cells.specs.Layout.{ELEN, LEN, ORD, PE, TMP, WANT}
+use Rattle.cells.specs.Links.{parent}
+use Rattle.cells.specs.View.{at, plus, rd, up}
+use Rattle.packed.specs.Gather.{Cleared, Outside, allLengths, cleared, collectedRest, droppedAll, gatheredOutside, madeRoom, settled, summed}
+use Rattle.packed.specs.Model.{entered, laid, packedAll}
+use Rattle.packed.specs.Places.{Owns, Space, places, sumTo}
+use Rattle.packed.specs.Reading.{afterParts, entriesOf, picked, readAll, sofarOf}
+use Rattle.packed.specs.Tray.{taking, tookAll}
+use Rattle.packed.proofs.Collection.{collected}
+use Rattle.packed.proofs.Dropping.{Dropped, dropped-all, dropped-fold, except, lengths-sum, space-fold, sum-without}
+use Rattle.packed.proofs.Frame.{len-of}
+use Rattle.packed.proofs.Gathers.{room-no-step, room-yes-step}
+use Rattle.packed.proofs.Picked.{after-is, picked-new}
+use Rattle.packed.proofs.Readings.{first-part, holds-all}
+use Rattle.packed.proofs.Settling.{Ready, Settled, settled-there}
+use Rattle.packed.proofs.Spaces.{space-renamed, space-same}
+use Rattle.packed.proofs.Sums.{sum-same}
+use Rattle.packed.proofs.Taking.{Holds, wants}
+use Rattle.packed.specs.declared.Tray.{Tray}
+
+-- from the spaces l and s, m is what the gather of the entries q leaves, for me with the elements es
+pub record Gathered (n : ℕ) (X : ℕ → List ℕ) (l s : List ℤ) (made base lim me : ℕ) (es : List ℕ) (q : List Read) (m : Outside) : Type 0 where
+  pub space : Space n (upd (except X es []) me (entriesOf q)) (m .lists) (m .mem) (suc made) (m .made .base) (m .made .free)
+  pub place : rd n PE (m .mem) me ≡ m .made .start
+  -- nobody else stands there, or behind
+  pub others : (i c : ℕ) → i ≢ me → Owns (places n (m .mem)) i c → c < m .made .start
+  pub wide : m .made .base ≤ m .made .start
+  pub count : m .made .count ≡ length q
+  pub free : m .made .free ≡ m .made .start + length q
+  pub turns : m .made .made ≡ suc made
+  pub long : length (m .lists) ≡ length l
+  pub want : (i : ℕ) → rd n WANT (m .mem) i ≡ except (rd n WANT s) (entriesOf q) 0 i
+  pub table : entries (rd n TMP (m .mem)) 0 (length q) ≡ entriesOf q
+  pub order : (t : ℕ) → t ≢ made → rd n ORD (m .mem) t ≡ rd n ORD s t
+  pub last : rd n ORD (m .mem) made ≡ me
+  pub fields : (f i : ℕ) → eqb PE f ≡ false → eqb LEN f ≡ false → eqb WANT f ≡ false → eqb TMP f ≡ false → eqb ORD f ≡ false → rd n f (m .mem) i ≡ rd n f s i
+  -- what is dead keeps its place and its parent
+  pub dead : (i : ℕ) → i ≢ me → rd n LEN (m .mem) i ≡ 0 → rd n PE (m .mem) i ≡ rd n PE s i
+  pub parents : (i : ℕ) → i ≢ me → rd n LEN (m .mem) i ≡ 0 → parent n (m .mem) i ≡ parent n s i
+  -- there is a place for each: no collection
+  pub kept : length q ≤ length l - lim → (m .made .start ≡ lim) × (m .made .base ≡ base) × (m .made .collected ≡ 0)
+  -- there is not: one, at the entry number length l - lim, counted from 0
+  pub moved : length l - lim < length q → (m .made .start ≡ sumTo n (λ i. length (X i)) - getD (sofarOf q) (length l - lim) 0) × (m .made .collected ≡ 1)
+
+-- where it stands in the room, and what is there
+module _ (n : ℕ) (X : ℕ → List ℕ) (l s : List ℤ) (made base lim : ℕ) (g : Space n X l s made base lim) (small : n < 2 ^ 63) (narrow : length l < 2 ^ 63) where
+  under : lim < 2 ^ 63
+  under = omega (arith, g .lists .fits)
+
+  -- the lists hold no more than lies below the limit
+  pub all-low : sumTo n (λ i. length (X i)) ≤ lim
+  all-low = let c = collected n X lim under l s base made g in omega (arith, c .total, c .before)
+
+  pub lengths-held : sumTo n (rd n LEN s) ≡ sumTo n (λ i. length (X i))
+  lengths-held = sum-same n (λ i. length (X i)) (rd n LEN s) (λ i a. len-of l (places n s) lim X (g .lists) i)
+
+  module _ (me : ℕ) (hm : me < n) (es vs : List ℕ) (parts : X me ≡ es ++ vs) (elen : rd n ELEN s me ≡ length es)
+      (once : Distinct es) (away : member me es ≡ false) (low : (e : ℕ) → In e es → e < n) where
+    abbrev L : ℕ → ℕ
+    L i = length (X i)
+
+    abbrev gone : List ℕ
+    gone = es ++ (me ∷ [])
+
+    gone-once : Distinct gone
+    gone-once = distinct-snoc me es once away
+
+    gone-low : (x : ℕ) → In x gone → x < n
+    gone-low x h = ⊎-elim (λ a. low x a) (λ a. member-cases (x < n) x me [] a (λ e. rw e hm) (λ d b. no-member x b)) (append-either x es (me ∷ []) h)
+
+    -- what is left when they are freed
+    abbrev Y : ℕ → List ℕ
+    Y = except X gone []
+
+    length-cond : (b : Bool) (x : List ℕ) → length (cond b [] x) ≡ cond b 0 (length x)
+    length-cond true x = refl
+    length-cond false x = refl
+
+    left-sum : sumTo n (λ i. length (Y i)) + total L gone ≡ sumTo n L
+    left-sum = omega (arith, sum-same n (except L gone 0) (λ i. length (Y i)) (λ i a. length-cond (member i gone) (X i)), sum-without n L gone gone-once gone-low)
+
+    -- all that is read are the cells of me and of its elements
+    read-sum : afterParts X 0 es + length vs ≡ total L gone
+    read-sum = omega (arith, after-is X 0 es, total-append L es (me ∷ []), total-one L me, ap length parts, length-append es vs)
+
+    -- without me itself, me is as the others
+    left-as : (new : List ℕ) (i : ℕ) → upd Y me new i ≡ upd (except X es []) me new i
+    left-as new i = ⊎-elim
+        (λ e. rw e (upd-same Y me new ∙ sym (upd-same (except X es []) me new)))
+        (λ d. rw (upd-other Y me new i d, upd-other (except X es []) me new i d) (ap (λ (b : Bool). cond b [] (X i)) (other i d)))
+        (same? i me)
+      where
+        or-none : (b : Bool) → b || false ≡ b
+        or-none true = refl
+        or-none false = refl
+
+        other : (i : ℕ) → i ≢ me → member i gone ≡ member i es
+        other i d = member-append i es (me ∷ []) ∙ ap (λ (b : Bool). member i es || b) (not-cons i me [] d (member-nil i)) ∙ or-none (member i es)
+
+    abbrev quota : ℕ
+    quota = length l - lim
+
+    abbrev q : List Read
+    q = picked (wants n s) (readAll X es vs)
+
+    abbrev reads : ℕ
+    reads = afterParts X 0 es + length vs
+
+    taken : Holds n quota s q reads (tookAll n quota l s me)
+    taken = holds-all n small quota s l lim X (g .lists) me es vs parts elen under (omega (arith, read-sum, left-sum, all-low)) (g .room)
+
+    -- no more than there are numbers
+    pub few : length q ≤ n
+    few = omega (arith, length-below n (entriesOf q) (taken .once) (taken .low), length-map q (λ (a : Read). a .entry))
+
+    module _ (turns : made < n) (fresh : (t : ℕ) → t < made → rd n ORD s t ≢ me) (s₁ : List ℤ) (t : Tray) (h : Holds n quota s q reads (taking s₁ t)) where
+      space₁ : Space n X l s₁ made base lim
+      space₁ = space-same n X l s made base lim g s₁ (h .room) (λ i. h .fields PE i refl refl) (λ i. h .fields LEN i refl refl) (λ i. h .fields ORD i refl refl)
+
+      s₂ : List ℤ
+      s₂ = droppedAll n l me s₁
+
+      drops : s₂ ≡ foldl (λ a e. up n LEN a e 0) s₁ gone
+      unfolding s₂
+      drops = dropped-all n l s₁ me es (rw (h .fields PE me refl refl, h .fields ELEN me refl refl) (first-part n small quota s l lim X (g .lists) me es vs parts elen))
+
+      space₂ : Space n Y l s₂ made base lim
+      space₂ = rw drops (space-fold n l made base lim gone X s₁ gone-low space₁)
+
+      freed : Dropped n gone s₁ s₂
+      freed = rw drops (dropped-fold n gone s₁ (h .room) gone-low)
+
+      -- there is a place for each
+      ready-kept : length q ≤ quota → Ready n Y l s₂ made (length q) (cleared l s₂ (record { base = base; end = lim }))
+      ready-kept b =
+          record {
+            top = lim;
+            space = space₂;
+            behind = omega arith;
+            fits = omega (arith, g .lists .fits);
+            long = refl;
+            fields = λ f i e. refl;
+            dead = λ i z. refl;
+            parents = λ i z. refl;
+          }
+
+      -- there is not
+      ready-moved : sumTo n L + n ≤ length l → Ready n Y l s₂ made (length q) (collectedRest n me base lim made (t .mark) l s₁)
+      unfolding collectedRest s₂
+      ready-moved room =
+          let c = collected n Y lim under l s₂ base made space₂ in
+          let z : allLengths n s₁ ≡ sumTo n L =
+          lengths-sum n s₁ (omega (arith, all-low, sum-same n L (rd n LEN s₁) (λ i a. len-of l (places n s₁) lim X (space₁ .lists) i)))
+          ∙ sum-same n L (rd n LEN s₁) (λ i a. len-of l (places n s₁) lim X (space₁ .lists) i) in
+          record {
+            top = packedAll n base lim made l s₂ .end;
+            space = c .space;
+            behind = omega (arith, c .total, z, h .mark, h .late quota, read-sum, left-sum);
+            fits = omega (arith, z, few);
+            long = c .long;
+            fields = c .fields;
+            dead = c .dead;
+            parents = c .parents;
+          }
+
+      abbrev new : List ℕ
+      new = entriesOf q
+
+      new-length : length new ≡ length q
+      new-length = length-map q (λ (a : Read). a .entry)
+
+      table₂ : entries (rd n TMP s₂) 0 (length new) ≡ new
+      table₂ = rw new-length (entries-same (rd n TMP s₁) (rd n TMP s₂) 0 0 (length q) (λ i b. freed .fields TMP (0 + i) refl) ∙ h .table)
+
+      fresh₂ : (i : ℕ) → i < made → rd n ORD s₂ i ≢ me
+      fresh₂ i b e = fresh i b (sym (h .fields ORD i refl refl) ∙ sym (freed .fields ORD i refl) ∙ e)
+
+      module _ (c : Cleared) (r : Ready n Y l s₂ made (length q) c) where
+        stands : Settled n Y l s₂ made me (c .ends .end) (c .ends .base) new (laid n (c .mem) (c .ends .end) (t .cnt) (c .lists)) (entered n (c .mem) made me (c .ends .end) (t .cnt))
+        stands =
+            let e : t .cnt ≡ length new = h .cnt ∙ sym new-length in
+            subst⁻¹ (λ (k : ℕ). Settled n Y l s₂ made me (c .ends .end) (c .ends .base) new (laid n (c .mem) (c .ends .end) k (c .lists)) (entered n (c .mem) made me (c .ends .end) k)) e
+            (settled-there n Y l s₂ made me new c hm turns fresh₂ table₂ (rw (← new-length) at r))
+
+        whole : (length q ≤ quota → (c .ends .end ≡ lim) × (c .ends .base ≡ base) × (t .mark ≡ 0)) → (quota < length q → (c .ends .end ≡ sumTo n L - t .mark) × (0 < t .mark))
+            → Gathered n X l s made base lim me es q (settled n me made t c)
+        unfolding settled summed
+        whole stay move =
+            let u : t .cnt ≡ length q = h .cnt in
+            let f = r .fits in
+            let p : plus (c .ends .end) (t .cnt) ≡ c .ends .end + length q = plus-sum (c .ends .end) (t .cnt) (omega (arith, u)) ∙ omega (arith, u) in
+            record {
+              space = rw (p, ← new-length) (space-renamed n (upd Y me new) _ _ (suc made) (c .ends .base) (c .ends .end + length new) (stands .space) (upd (except X es []) me new) (left-as new));
+              place = stands .place;
+              others = stands .others;
+              wide = stands .wide;
+              count = u;
+              free = p;
+              turns = plus-sum made 1 (omega arith) ∙ omega arith;
+              long = stands .long;
+              want = λ i. stands .fields WANT i refl refl refl ∙ freed .fields WANT i refl ∙ h .want i;
+              table = entries-same (rd n TMP s₁) (rd n TMP (entered n (c .mem) made me (c .ends .end) (t .cnt))) 0 0 (length q)
+                  (λ i b. stands .fields TMP (0 + i) refl refl refl ∙ freed .fields TMP (0 + i) refl) ∙ h .table;
+              order = λ i d. stands .order i d ∙ freed .fields ORD i refl ∙ h .fields ORD i refl refl;
+              last = stands .last;
+              fields = λ k i a b d e o. stands .fields k i a b o ∙ freed .fields k i b ∙ h .fields k i d e;
+              dead = λ i d z. stands .dead i d z ∙ freed .fields PE i refl ∙ h .fields PE i refl refl;
+              parents = λ i d z. stands .parents i d z ∙ freed .parents i ∙ h .parents i;
+              kept = λ b. let y = stay b in (y .0, y .1, rw (y .2));
+              moved = λ b. let y = move b in (y .0 ∙ ap (λ (k : ℕ). sumTo n L - k) (h .mark), rw (lt-ltb 0 (t .mark) (y .1)));
+            }
+
+      mark-none : length q ≤ quota → t .mark ≡ 0
+      mark-none b = h .mark ∙ List·getD-eq-default (sofarOf q) 0 (omega (arith, length-map q (λ (a : Read). a .sofar)))
+
+      mark-some : quota < length q → 0 < t .mark
+      mark-some b = omega (arith, h .mark, h .early quota b)
+
+      all-lengths : allLengths n s₁ ≡ sumTo n L
+      all-lengths =
+          let e = sum-same n L (rd n LEN s₁) (λ i a. len-of l (places n s₁) lim X (space₁ .lists) i) in
+          lengths-sum n s₁ (omega (arith, all-low)) ∙ e
+
+      either-way : sumTo n L + n ≤ length l → (quota < length q) ⊎ (length q ≤ quota)
+          → Gathered n X l s made base lim me es q (settled n me made t (madeRoom n me base lim made (t .mark) l s₁))
+      unfolding collectedRest s₂
+      either-way room (inl b) =
+          rw (← room-yes-step n me base lim made (t .mark) l s₁ (collectedRest n me base lim made (t .mark) l s₁) refl (mark-some b))
+          (whole (collectedRest n me base lim made (t .mark) l s₁) (ready-moved room) (λ d. absurd (omega arith)) (λ d. (ap (λ (k : ℕ). k - t .mark) all-lengths, mark-some b)))
+      either-way room (inr b) =
+          rw (← room-no-step n me base lim made (t .mark) l s₁ s₂ refl (omega (arith, mark-none b)))
+          (whole (cleared l s₂ (record { base = base; end = lim })) (ready-kept b) (λ d. (refl, refl, mark-none b)) (λ d. absurd (omega arith)))
+
+    -- THE gather
+    pub gathered-rep : made < n → ((t : ℕ) → t < made → rd n ORD s t ≢ me) → sumTo n L + n ≤ length l
+        → Gathered n X l s made base lim me es q (gatheredOutside n me base lim made l s)
+    unfolding gatheredOutside
+    gathered-rep turns fresh room =
+        let m = tookAll n quota l s me in
+        either-way turns fresh (m .mem) (m .tray) taken room (split quota (length q))
+
+    -- the list is the first of each wanted number, of the elements' lists in order and then the own variables
+    pub gathered-new : entriesOf q ≡ firsts (wants n s) (flatMap X es ++ vs)
+    gathered-new = picked-new (wants n s) X es vs

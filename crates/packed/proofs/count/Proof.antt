@@ -1,0 +1,22 @@
+use Rattle.packed.proofs.Trays.{count-full, count-free}
+use borrow.Author.Needs.{needs}
+use Rattle.packed.proofs.count.Statement.{statement}
+use Rattle.packed.proofs.count.Tie as tie
+use Rattle.packed.proofs.count.Reads as reads
+use Rattle.packed.proofs.count.Lts as lts
+use Rattle.cells.proofs.plus.Reads as plus-reads
+
+-- src/lib.rt:173:9
+plus-requires : tie.Need-plus-requires
+plus-requires c κs = search needs
+
+-- src/lib.rt:169:1
+returns : tie.Need-returns
+returns c = search (needs, count-full)
+
+-- src/lib.rt:169:1
+returns-2 : tie.Need-returns-2
+returns-2 c = search (needs, count-free)
+
+pub count-spec : {M : Type 1} → statement M
+count-spec = tie.close (tie.spec plus-requires returns returns-2)

@@ -1,0 +1,48 @@
+use Rattle.packed.proofs.Steps.{enter-step}
+use borrow.Author.Needs.{needs}
+use Rattle.packed.proofs.enter.Statement.{statement}
+use Rattle.packed.proofs.enter.Tie as tie
+use Rattle.packed.proofs.enter.Reads as reads
+use Rattle.packed.proofs.enter.Lts as lts
+use Rattle.cells.proofs.up.Reads as up-reads
+use Rattle.packed.proofs.lay.Reads as lay-reads
+
+-- src/lib.rt:146:5
+lay-requires : tie.Need-lay-requires
+lay-requires c κs = search needs
+
+-- src/lib.rt:147:5
+up-requires : tie.Need-up-requires
+up-requires c κs = search needs
+
+-- src/lib.rt:148:5
+up-requires-2 : tie.Need-up-requires-2
+up-requires-2 c κs = search needs
+
+-- src/lib.rt:149:5
+put-requires : tie.Need-put-requires
+put-requires c κs = search needs
+
+-- src/lib.rt:142:1
+same-length : tie.Need-same-length
+same-length c = search needs
+
+-- src/lib.rt:142:1
+same-length-2 : tie.Need-same-length-2
+same-length-2 c = search needs
+
+-- src/lib.rt:142:1
+returns : tie.Need-returns
+returns c = search (needs, enter-step)
+
+pub enter-spec : {M : Type 1} → statement M
+enter-spec =
+    tie.close
+    (tie.spec
+    lay-requires
+    up-requires
+    up-requires-2
+    put-requires
+    same-length
+    same-length-2
+    returns)

@@ -1,0 +1,55 @@
+use Rattle.packed.proofs.Gathers.{inside-step}
+use borrow.Author.Needs.{needs}
+use Rattle.packed.proofs.gather_in_place.Statement.{statement}
+use Rattle.packed.proofs.gather_in_place.Tie as tie
+use Rattle.packed.proofs.gather_in_place.Reads as reads
+use Rattle.packed.proofs.gather_in_place.Lts as lts
+use Rattle.cells.proofs.rd.Reads as rd-reads
+use Rattle.cells.proofs.up.Reads as up-reads
+use Rattle.packed.proofs.lay.Reads as lay-reads
+use Rattle.packed.proofs.take_part.Reads as take-part-reads
+
+-- src/lib.rt:451:9
+rd-requires : tie.Need-rd-requires
+rd-requires c κs = search needs
+
+-- src/lib.rt:452:9
+rd-requires-2 : tie.Need-rd-requires-2
+rd-requires-2 c κs = search needs
+
+-- src/lib.rt:453:9
+take-part-requires : tie.Need-take-part-requires
+take-part-requires c κs = search needs
+
+-- src/lib.rt:454:5
+lay-requires : tie.Need-lay-requires
+lay-requires c κs = search needs
+
+-- src/lib.rt:455:5
+up-requires : tie.Need-up-requires
+up-requires c κs = search needs
+
+-- src/lib.rt:447:1
+same-length : tie.Need-same-length
+same-length c = search needs
+
+-- src/lib.rt:447:1
+same-length-2 : tie.Need-same-length-2
+same-length-2 c = search needs
+
+-- src/lib.rt:447:1
+returns : tie.Need-returns
+returns c = search (needs, inside-step)
+
+pub gather-in-place-spec : {M : Type 1} → statement M
+gather-in-place-spec =
+    tie.close
+    (tie.spec
+    rd-requires
+    rd-requires-2
+    take-part-requires
+    lay-requires
+    up-requires
+    same-length
+    same-length-2
+    returns)

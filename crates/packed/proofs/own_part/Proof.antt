@@ -1,0 +1,38 @@
+use Rattle.packed.proofs.Trays.{own-step}
+use borrow.Author.Needs.{needs}
+use Rattle.packed.proofs.own_part.Statement.{statement}
+use Rattle.packed.proofs.own_part.Tie as tie
+use Rattle.packed.proofs.own_part.Reads as reads
+use Rattle.packed.proofs.own_part.Lts as lts
+use Rattle.cells.proofs.less.Reads as less-reads
+use Rattle.cells.proofs.plus.Reads as plus-reads
+use Rattle.cells.proofs.rd.Reads as rd-reads
+
+-- src/lib.rt:279:9
+rd-requires : tie.Need-rd-requires
+rd-requires c κs = search needs
+
+-- src/lib.rt:280:9
+rd-requires-2 : tie.Need-rd-requires-2
+rd-requires-2 c κs = search needs
+
+-- src/lib.rt:281:9
+rd-requires-3 : tie.Need-rd-requires-3
+rd-requires-3 c κs = search needs
+
+-- src/lib.rt:282:9
+plus-requires : tie.Need-plus-requires
+plus-requires c κs = search needs
+
+-- src/lib.rt:283:9
+less-requires : tie.Need-less-requires
+less-requires c κs = search needs
+
+-- src/lib.rt:275:1
+returns : tie.Need-returns
+returns c = search (needs, own-step)
+
+pub own-part-spec : {M : Type 1} → statement M
+own-part-spec =
+    tie.close
+    (tie.spec rd-requires rd-requires-2 rd-requires-3 plus-requires less-requires returns)

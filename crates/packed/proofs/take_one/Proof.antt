@@ -1,0 +1,67 @@
+use Rattle.packed.proofs.Trays.{take-yes, take-no}
+use borrow.Author.Needs.{needs}
+use Rattle.packed.proofs.take_one.Statement.{statement}
+use Rattle.packed.proofs.take_one.Tie as tie
+use Rattle.packed.proofs.take_one.Reads as reads
+use Rattle.packed.proofs.take_one.Lts as lts
+use Rattle.cells.proofs.plus.Reads as plus-reads
+use Rattle.cells.proofs.put.Reads as put-reads
+use Rattle.cells.proofs.rd.Reads as rd-reads
+use Rattle.cells.proofs.up.Reads as up-reads
+use Rattle.packed.proofs.count.Reads as count-reads
+use Rattle.packed.proofs.pass.Reads as pass-reads
+
+-- src/lib.rt:195:9
+rd-requires : tie.Need-rd-requires
+rd-requires c κs = search needs
+
+-- src/lib.rt:197:9
+up-requires : tie.Need-up-requires
+up-requires c κs = search needs
+
+-- src/lib.rt:198:9
+put-requires : tie.Need-put-requires
+put-requires c κs = search needs
+
+-- src/lib.rt:199:13
+plus-requires : tie.Need-plus-requires
+plus-requires c κs = search needs
+
+-- src/lib.rt:200:9
+count-requires : tie.Need-count-requires
+count-requires c κs = search needs
+
+-- src/lib.rt:202:9
+pass-requires : tie.Need-pass-requires
+pass-requires c κs = search needs
+
+-- src/lib.rt:191:1
+same-length : tie.Need-same-length
+same-length c = search needs
+
+-- src/lib.rt:191:1
+returns : tie.Need-returns
+returns c = search (needs, take-yes)
+
+-- src/lib.rt:191:1
+same-length-2 : tie.Need-same-length-2
+same-length-2 c = search needs
+
+-- src/lib.rt:191:1
+returns-2 : tie.Need-returns-2
+returns-2 c = search (needs, take-no)
+
+pub take-one-spec : {M : Type 1} → statement M
+take-one-spec =
+    tie.close
+    (tie.spec
+    rd-requires
+    up-requires
+    put-requires
+    plus-requires
+    count-requires
+    pass-requires
+    same-length
+    returns
+    same-length-2
+    returns-2)

@@ -1,0 +1,68 @@
+-- A gather's reading, as the code does it: numbers go from lists into the scratch table, nothing moving.
+-- Assumes nothing.
+use Prim.Native.Nat.{_+_, _-_, _<_, _^_, ℕ}
+use mathlib.Core.Bool.{cond}
+use mathlib.Core.List.{List}
+use lib.Dec.{eqb, ltb}
+use lib.IntN.{ℤ}
+use Rattle.plain.specs.Turns.{times}
+use Rattle.cells.specs.Layout.{ELEN, LEN, PE, TMP, WANT}
+use Rattle.cells.specs.View.{at, plus, rd, up}
+use Rattle.packed.specs.declared.Part.{Part}
+use Rattle.packed.specs.declared.Tray.{Tray}
+
+pub record Small (t : Tray) : Type 0 where
+  pub cnt : t .cnt < 2 ^ 63
+  pub reads : t .reads < 2 ^ 63
+  pub mark : t .mark < 2 ^ 63
+
+-- the scratch, and the numbers beside it
+pub record Taking : Type 0 where
+  pub mem : List ℤ
+  pub tray : Tray
+
+abbrev pub taking : List ℤ → Tray → Taking
+taking s t = record { mem = s; tray = t }
+
+-- an entry is collected, with which r are read: the one that finds no place is marked
+unfoldable pub counted : ℕ → ℕ → Tray → Tray
+counted quota r t = record { cnt = plus (t .cnt) 1; reads = r; mark = cond (eqb (t .cnt) quota) r (t .mark) }
+
+-- an entry is read and not collected
+unfoldable pub passedBy : Tray → Tray
+passedBy t = record { cnt = t .cnt; reads = plus (t .reads) 1; mark = t .mark }
+
+-- x is read: it goes into the table if it is wanted
+unfoldable pub took : ℕ → ℕ → ℕ → Taking → Taking
+took n quota x m =
+    cond (ltb 0 (rd n WANT (m .mem) x))
+    (taking (up n TMP (up n WANT (m .mem) x 0) (m .tray .cnt) x) (counted quota (plus (m .tray .reads) 1) (m .tray)))
+    (taking (m .mem) (passedBy (m .tray)))
+
+-- the numbers of a part of the list space
+unfoldable pub tookPart : ℕ → ℕ → List ℤ → ℕ → ℕ → Taking → Taking
+tookPart n quota l p k m = times k (λ t. took n quota (at l (p + t))) m
+
+-- the number of an element, and then the element's own list
+unfoldable pub tookElement : ℕ → ℕ → List ℤ → ℕ → Taking → Taking
+tookElement n quota l q m =
+    tookPart n quota l (rd n PE (m .mem) (at l q)) (rd n LEN (m .mem) (at l q)) (taking (m .mem) (passedBy (m .tray)))
+
+-- the elements whose numbers are in a part of the list space
+unfoldable pub tookElements : ℕ → ℕ → List ℤ → ℕ → ℕ → Taking → Taking
+tookElements n quota l p k m = times k (λ t. tookElement n quota l (p + t)) m
+
+-- the part of a list behind its elements
+unfoldable pub ownPart : ℕ → List ℤ → ℕ → Part
+ownPart n s me = record { from = plus (rd n PE s me) (rd n ELEN s me); len = rd n LEN s me - rd n ELEN s me }
+
+-- its variables
+unfoldable pub tookOwn : ℕ → ℕ → List ℤ → ℕ → Taking → Taking
+tookOwn n quota l me m = tookPart n quota l (ownPart n (m .mem) me .from) (ownPart n (m .mem) me .len) m
+
+abbrev pub emptyTray : Tray
+emptyTray = record { cnt = 0; reads = 0; mark = 0 }
+
+-- the whole reading of a gather
+unfoldable pub tookAll : ℕ → ℕ → List ℤ → List ℤ → ℕ → Taking
+tookAll n quota l s me = tookOwn n quota l me (tookElements n quota l (rd n PE s me) (rd n ELEN s me) (taking s emptyTray))
