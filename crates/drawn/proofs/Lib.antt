@@ -1,0 +1,1 @@
+-- Laws of what the memory holds. None belongs to a function.

@@ -1,0 +1,1 @@
+// No code: what the memory holds of the definition's state stands in specs/, laws of it in proofs/.
