@@ -1,0 +1,2 @@
+-- The definitions that the contracts of `sizing` cite, and what its laws say of the marks.
+pub mod Model
