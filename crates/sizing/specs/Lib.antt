@@ -1,2 +1,3 @@
 -- The definitions that the contracts of `sizing` cite, and what its laws say of the marks.
 pub mod Model
+pub mod Counters
