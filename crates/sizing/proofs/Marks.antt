@@ -87,3 +87,98 @@ module _ (n : ℕ) where
         (ltb 0 (rd n W s x))
         (λ b. rw b (rd-up-same n W s x (plus (rd n DEGREE s x) flag - weight) (omega arith) r h))
         (λ b. rw b)))
+
+    -- where there is no such row
+    outside-element : (x : ℕ) (s : List ℤ) → n ≤ x → rd n W (sizedElement n weight flag x s) x ≡ lessened flag weight (rd n DEGREE s x) (rd n W s x)
+    unfolding lessened
+    outside-element x s h =
+        rw (rd-null n W (sizedElement n weight flag x s) x (omega arith) h, rd-null n W s x (omega arith) h)
+        (cond-has (λ (y : ℕ). 0 ≡ y) (leb flag 0) (λ a. omega arith) (λ a. refl))
+
+    own : (x : ℕ) (s : List ℤ) → Room n s → rd n W (sizedElement n weight flag x s) x ≡ lessened flag weight (rd n DEGREE s x) (rd n W s x)
+    own x s r = by-size (split x n)
+      where
+        by-size : (x < n) ⊎ (n ≤ x) → rd n W (sizedElement n weight flag x s) x ≡ lessened flag weight (rd n DEGREE s x) (rd n W s x)
+        by-size (inl h) = own-element x s r h
+        by-size (inr h) = outside-element x s h
+
+    -- ---- the elements of a list
+
+    abbrev partFold : List ℤ → List ℕ → List ℤ
+    partFold s es = foldl (λ a x. sizedElement n weight flag x a) s es
+
+    kept-part : (es : List ℕ) (s : List ℤ) → Room n s → Kept n s (partFold s es)
+    kept-part [] s r = kept-none s r
+    kept-part (x ∷ es) s r =
+        let a = kept-element x s r in
+        kept-more s (sizedElement n weight flag x s) (partFold (sizedElement n weight flag x s) es) a (kept-part es (sizedElement n weight flag x s) (a .room))
+
+    -- one more at the front
+    part-more : (e x : ℕ) (es : List ℕ) (s : List ℤ) (m : ℕ) → Room n s → member x es ≡ false → (e ≡ x) ⊎ (e ≢ x)
+        → m ≡ cond (member e es) (lessened flag weight (rd n DEGREE (sizedElement n weight flag x s) e) (rd n W (sizedElement n weight flag x s) e)) (rd n W (sizedElement n weight flag x s) e)
+        → m ≡ cond (eqb e x || member e es) (lessened flag weight (rd n DEGREE s e) (rd n W s e)) (rd n W s e)
+    part-more e x es s m r d (inl q) later =
+        let z : member e es ≡ false = ap (λ (y : ℕ). member y es) q ∙ d in
+        let o : rd n W (sizedElement n weight flag x s) e ≡ lessened flag weight (rd n DEGREE s e) (rd n W s e) = rw q (own x s r) in
+        rw (eq-eqb e x q) (later ∙ rw z o)
+    part-more e x es s m r d (inr q) later = rw (ne-eqb e x q) (later ∙ rw (apart-element x e s q, kept-element x s r .fields DEGREE e refl))
+
+    mark-part : (e : ℕ) (es : List ℕ) (s : List ℤ) → Room n s → Distinct es
+        → rd n W (partFold s es) e ≡ cond (member e es) (lessened flag weight (rd n DEGREE s e) (rd n W s e)) (rd n W s e)
+    unfolding member
+    mark-part e [] s r d = refl
+    mark-part e (x ∷ es) s r d =
+        part-more e x es s (rd n W (partFold (sizedElement n weight flag x s) es) e) r (d .0) (same? e x)
+        (mark-part e es (sizedElement n weight flag x s) (kept-element x s r .room) (d .1))
+
+-- ---- the elements of the rows
+
+module _ (n : ℕ) (l : List ℤ) (flag : ℕ) where
+  of-fold : (i : ℕ) (s : List ℤ) (es : List ℕ) → entries (at l) (rd n PE s i) (rd n ELEN s i) ≡ es → sizedOf n l flag i s ≡ partFold n (rd n NV s i) flag s es
+  unfolding sizedOf sizedPart sizedAt
+  of-fold i s es h =
+      times-fold (λ e a. sizedElement n (rd n NV s i) flag e a) (at l) (rd n PE s i) (rd n ELEN s i) s
+      ∙ ap (foldl (λ a e. sizedElement n (rd n NV s i) flag e a) s) h
+
+  pub all-fold : (from k : ℕ) (s : List ℤ) (new : List ℕ) → entries (at l) from k ≡ new → sizedAll n l flag from k s ≡ foldl (λ a i. sizedOf n l flag i a) s new
+  unfolding sizedAll sizedRow
+  all-fold from k s new h = times-fold (λ i a. sizedOf n l flag i a) (at l) from k s ∙ ap (foldl (λ a i. sizedOf n l flag i a) s) h
+
+  kept-of : (i : ℕ) (s : List ℤ) → Room n s → Kept n s (sizedOf n l flag i s)
+  kept-of i s r =
+      rw (of-fold i s (entries (at l) (rd n PE s i) (rd n ELEN s i)) refl)
+      (kept-part n (rd n NV s i) flag (entries (at l) (rd n PE s i) (rd n ELEN s i)) s r)
+
+  kept-rows : (new : List ℕ) (s : List ℤ) → Room n s → Kept n s (foldl (λ a i. sizedOf n l flag i a) s new)
+  kept-rows [] s r = kept-none n s r
+  kept-rows (i ∷ new) s r =
+      let a = kept-of i s r in
+      kept-more n s (sizedOf n l flag i s) (foldl (λ a i. sizedOf n l flag i a) (sizedOf n l flag i s) new) a (kept-rows new (sizedOf n l flag i s) (a .room))
+
+  pub kept-all : (from k : ℕ) (s : List ℤ) → Room n s → Kept n s (sizedAll n l flag from k s)
+  kept-all from k s r = rw (all-fold from k s (entries (at l) from k) refl) (kept-rows (entries (at l) from k) s r)
+
+  -- E has the elements of the rows
+  abbrev pub Listed : List ℤ → (ℕ → List ℕ) → List ℕ → Type 0
+  Listed s E new = (i : ℕ) → In i new → (entries (at l) (rd n PE s i) (rd n ELEN s i) ≡ E i) × Distinct (E i)
+
+  module _ (s : List ℤ) (E : ℕ → List ℕ) (e : ℕ) where
+    mark-of : (t : List ℤ) → Kept n s t → (i : ℕ) → entries (at l) (rd n PE s i) (rd n ELEN s i) ≡ E i → Distinct (E i)
+        → rd n W (sizedOf n l flag i t) e ≡ passing flag E (rd n NV s) (rd n DEGREE s e) e (rd n W t e) i
+    mark-of t k i h d =
+        let h′ : entries (at l) (rd n PE t i) (rd n ELEN t i) ≡ E i = rw (k .fields PE i refl, k .fields ELEN i refl) h in
+        rw (of-fold i t (E i) h′, ← k .fields NV i refl, ← k .fields DEGREE e refl) (mark-part n (rd n NV t i) flag e (E i) t (k .room) d)
+
+    mark-rows : (new : List ℕ) (t : List ℤ) → Kept n s t → Listed s E new
+        → rd n W (foldl (λ a i. sizedOf n l flag i a) t new) e ≡ foldl (passing flag E (rd n NV s) (rd n DEGREE s e) e) (rd n W t e) new
+    mark-rows [] t k h = refl
+    mark-rows (i ∷ new) t k h =
+        let a = h i (member-here i new) in
+        mark-rows new (sizedOf n l flag i t) (kept-more n s t (sizedOf n l flag i t) k (kept-of i t (k .room))) (λ j m. h j (member-there j i new m))
+        ∙ ap (λ (y : ℕ). foldl (passing flag E (rd n NV s) (rd n DEGREE s e) e) y new) (mark-of t k i (a .0) (a .1))
+
+    -- each mark goes its own way
+    pub mark-all : (from k : ℕ) (new : List ℕ) → entries (at l) from k ≡ new → Room n s → Listed s E new
+        → rd n W (sizedAll n l flag from k s) e ≡ counted flag E (rd n NV s) (rd n DEGREE s e) e new (rd n W s e)
+    unfolding counted
+    mark-all from k new m r h = rw (all-fold from k s new m) (mark-rows new s (kept-none n s r) h)
