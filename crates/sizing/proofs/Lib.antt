@@ -2,3 +2,4 @@
 pub mod Steps
 pub mod Counting
 pub mod Marks
+pub mod Measuring

@@ -23,14 +23,8 @@ use Rattle.cells.specs.Layout.{DEGREE, ELEN, NV, PE, W}
 use Rattle.cells.specs.Links.{parent}
 use Rattle.cells.specs.View.{Room, at, plus, rd, up}
 use Rattle.sizing.specs.Counters.{counted, lessened, passing}
+use Rattle.sizing.specs.Sizes.{Kept, Listed}
 use Rattle.sizing.specs.Model.{sizedAll, sizedAt, sizedElement, sizedFirst, sizedOf, sizedPart, sizedRow}
-
--- from s to t nothing but marks is changed
-pub record Kept (n : ℕ) (s t : List ℤ) : Type 0 where
-  pub fields : (c i : ℕ) → eqb W c ≡ false → rd n c t i ≡ rd n c s i
-  pub parents : (i : ℕ) → parent n t i ≡ parent n s i
-  pub length : length t ≡ length s
-  pub room : Room n t
 
 module _ (n : ℕ) where
   pub kept-none : (s : List ℤ) → Room n s → Kept n s s
@@ -158,10 +152,6 @@ module _ (n : ℕ) (l : List ℤ) (flag : ℕ) where
   pub kept-all : (from k : ℕ) (s : List ℤ) → Room n s → Kept n s (sizedAll n l flag from k s)
   kept-all from k s r = rw (all-fold from k s (entries (at l) from k) refl) (kept-rows (entries (at l) from k) s r)
 
-  -- E has the elements of the rows
-  abbrev pub Listed : List ℤ → (ℕ → List ℕ) → List ℕ → Type 0
-  Listed s E new = (i : ℕ) → In i new → (entries (at l) (rd n PE s i) (rd n ELEN s i) ≡ E i) × Distinct (E i)
-
   module _ (s : List ℤ) (E : ℕ → List ℕ) (e : ℕ) where
     mark-of : (t : List ℤ) → Kept n s t → (i : ℕ) → entries (at l) (rd n PE s i) (rd n ELEN s i) ≡ E i → Distinct (E i)
         → rd n W (sizedOf n l flag i t) e ≡ passing flag E (rd n NV s) (rd n DEGREE s e) e (rd n W t e) i
@@ -169,7 +159,7 @@ module _ (n : ℕ) (l : List ℤ) (flag : ℕ) where
         let h′ : entries (at l) (rd n PE t i) (rd n ELEN t i) ≡ E i = rw (k .fields PE i refl, k .fields ELEN i refl) h in
         rw (of-fold i t (E i) h′, ← k .fields NV i refl, ← k .fields DEGREE e refl) (mark-part n (rd n NV t i) flag e (E i) t (k .room) d)
 
-    mark-rows : (new : List ℕ) (t : List ℤ) → Kept n s t → Listed s E new
+    mark-rows : (new : List ℕ) (t : List ℤ) → Kept n s t → Listed n l s E new
         → rd n W (foldl (λ a i. sizedOf n l flag i a) t new) e ≡ foldl (passing flag E (rd n NV s) (rd n DEGREE s e) e) (rd n W t e) new
     mark-rows [] t k h = refl
     mark-rows (i ∷ new) t k h =
@@ -178,7 +168,7 @@ module _ (n : ℕ) (l : List ℤ) (flag : ℕ) where
         ∙ ap (λ (y : ℕ). foldl (passing flag E (rd n NV s) (rd n DEGREE s e) e) y new) (mark-of t k i (a .0) (a .1))
 
     -- each mark goes its own way
-    pub mark-all : (from k : ℕ) (new : List ℕ) → entries (at l) from k ≡ new → Room n s → Listed s E new
+    pub mark-all : (from k : ℕ) (new : List ℕ) → entries (at l) from k ≡ new → Room n s → Listed n l s E new
         → rd n W (sizedAll n l flag from k s) e ≡ counted flag E (rd n NV s) (rd n DEGREE s e) e new (rd n W s e)
     unfolding counted
     mark-all from k new m r h = rw (all-fold from k s new m) (mark-rows new s (kept-none n s r) h)

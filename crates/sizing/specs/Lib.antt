@@ -1,3 +1,4 @@
 -- The definitions that the contracts of `sizing` cite, and what its laws say of the marks.
 pub mod Model
 pub mod Counters
+pub mod Sizes
