@@ -3,3 +3,5 @@ pub mod Steps
 pub mod Counting
 pub mod Marks
 pub mod Measuring
+pub mod Keeping
+pub mod Externals

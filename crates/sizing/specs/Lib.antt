@@ -2,3 +2,4 @@
 pub mod Model
 pub mod Counters
 pub mod Sizes
+pub mod Outside
