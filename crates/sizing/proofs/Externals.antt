@@ -37,6 +37,7 @@ use Rattle.sizing.specs.Counters.{shared}
 use Rattle.sizing.specs.Model.{sizedAll}
 use Rattle.sizing.specs.Outside.{Outside}
 use Rattle.sizing.specs.Sizes.{Listed, Measured, Ready}
+use Rattle.sizing.proofs.Keeping.{drawn-kept}
 use Rattle.sizing.proofs.Measuring.{measured-all}
 
 -- ---- lists
@@ -195,3 +196,7 @@ module _ {n : ℕ} (st : State) (v : Inv n st) (p : ℕ) (pv : Var (st .graph) p
             (none-if (member e (flatMap (elementsOf g₁) new)) (λ m. let r = member-flatMap e (elementsOf g₁) new m in clash (member e (elementsOf g₁ (r .0))) (r .2) (no (r .0) (r .1))));
         gone = measured .gone;
       }
+
+  -- the memory holds what it held
+  pub within-all : Within n l t g₁ p new cnt base lim
+  within-all = drawn-kept (measured .kept) h

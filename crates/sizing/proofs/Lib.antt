@@ -5,3 +5,4 @@ pub mod Marks
 pub mod Measuring
 pub mod Keeping
 pub mod Externals
+pub mod Raising
