@@ -2,15 +2,14 @@
 -- Assumes nothing.
 use Prim.Native.Nat.{_+_, _-_, _<_, _≤_, _^_, ℕ}
 use native.Mathlib.Omega.{arith}
-use mathlib.Core.Bool.{Bool, cond, false, true, _||_}
-use mathlib.Core.List.{List, [], _∷_, _++_, flatMap, foldl}
+use mathlib.Core.Bool.{Bool, cond, false, true}
+use mathlib.Core.List.{List, [], _∷_, flatMap, foldl}
 use mathlib.Core.Path.{_≡_, _∙_, ap, refl, sym}
-use borrow.Author.Tests.{le-leb, le-ltb, lt-leb, lt-ltb}
+use borrow.Author.Tests.{le-leb, lt-leb, lt-ltb}
 use Rattle.plain.proofs.Logic.{either, or-cases, or-false-left, or-false-right, clash}
 use Rattle.plain.proofs.Members.{member-append, no-member}
 use Rattle.plain.specs.Lists.{member, total}
 use Rattle.cells.proofs.Slices.{plus-sum}
-use Rattle.cells.specs.View.{plus}
 use Rattle.sizing.specs.Counters.{counted, lessened, passing, shared}
 
 -- ---- one row

@@ -1,11 +1,11 @@
 -- Step 3 for the definition, F6 in the memory: within a pivot's step, the marks of the elements of the collected variables become the flag and the external size.
 -- Assumes nothing.
-use Prim.Native.Nat.{_+_, _-_, _<_, _≤_, _^_, ℕ, suc}
+use Prim.Native.Nat.{_+_, _-_, _<_, _≤_, _^_, ℕ}
 use native.Mathlib.Omega.{arith}
-use mathlib.Core.Bool.{Bool, cond, false, true, _&&_}
+use mathlib.Core.Bool.{Bool, cond, false, true}
 use mathlib.Core.List.{List, [], _∷_, _++_, flatMap}
-use mathlib.Core.Logic.{_≢_, _⊎_, inl, inr}
-use mathlib.Core.Option.{Option, none, some}
+use mathlib.Core.Logic.{_⊎_, inl, inr}
+use mathlib.Core.Option.{some}
 use mathlib.Core.Path.{_≡_, _∙_, ap, refl, sym}
 use lib.Dec.{ltb}
 use lib.IntN.{ℤ}
@@ -15,8 +15,8 @@ use Rattle.plain.proofs.Logic.{and-both, clash, either, none-if}
 use Rattle.plain.proofs.Members.{member-flatMap, member-joined, no-member}
 use Rattle.plain.proofs.Sums.{total-members}
 use Rattle.plain.specs.Lists.{isNone, member, total}
-use Rattle.plain.specs.Members.{Distinct, In}
-use Rattle.plain.specs.Turns.{entries, upd}
+use Rattle.plain.specs.Members.{In}
+use Rattle.plain.specs.Turns.{entries}
 use Rattle.definition.specs.Pivot.{collected, passed}
 use Rattle.definition.specs.State.{Graph, Kind, State, degree, elementsOf, hasWeight, isElement, isVariable, kind, live, merged, parent, variablesOf, weight}
 use Rattle.definition.specs.Trim.{external}

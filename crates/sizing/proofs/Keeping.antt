@@ -3,7 +3,7 @@
 use Prim.Native.Nat.{_+_, ℕ}
 use mathlib.Core.Bool.{Bool}
 use mathlib.Core.List.{List}
-use mathlib.Core.Path.{_≡_, _∙_, refl, sym}
+use mathlib.Core.Path.{_∙_, refl, sym}
 use lib.IntN.{ℤ}
 use lib.ListN.{length}
 use Rattle.plain.proofs.Entries.{entries-same}

@@ -1,12 +1,12 @@
 -- What the model does to the marks, and that it does nothing else: each mark goes its own way, row by row.
 -- Assumes nothing.
-use Prim.Native.Nat.{_+_, _-_, _<_, _≤_, ℕ}
+use Prim.Native.Nat.{_-_, _<_, _≤_, ℕ}
 use native.Mathlib.Omega.{arith}
-use mathlib.Core.Bool.{Bool, cond, false, true, _||_}
+use mathlib.Core.Bool.{cond, false, _||_}
 use mathlib.Core.List.{List, [], _∷_, foldl}
 use mathlib.Core.Logic.{_≢_, _⊎_, inl, inr}
-use mathlib.Core.Path.{_≡_, _∙_, ap, refl, sym}
-use borrow.Author.Tests.{eq-eqb, le-leb, le-ltb, leb-true, lt-ltb, ne-eqb}
+use mathlib.Core.Path.{_≡_, _∙_, ap, refl}
+use borrow.Author.Tests.{eq-eqb, ne-eqb}
 use lib.Dec.{eqb, leb, ltb}
 use lib.IntN.{ℤ}
 use lib.ListN.{length}
@@ -14,13 +14,12 @@ use Rattle.plain.proofs.Logic.{cond-has, either}
 use Rattle.plain.proofs.Members.{member-here, member-there}
 use Rattle.plain.proofs.Turns.{times-fold}
 use Rattle.plain.specs.Lists.{member}
-use Rattle.plain.specs.Members.{Distinct, In}
-use Rattle.plain.specs.Turns.{entries, times}
-use Rattle.cells.proofs.Fields.{length-up, rd-null, rd-up-same, room-up, up-null}
+use Rattle.plain.specs.Members.{Distinct}
+use Rattle.plain.specs.Turns.{entries}
+use Rattle.cells.proofs.Fields.{length-up, rd-null, rd-up-same, room-up}
 use Rattle.cells.proofs.Laws.{parent-up-field, rd-up-cell′, rd-up-field}
 use Rattle.cells.proofs.Slices.{same?, split}
 use Rattle.cells.specs.Layout.{DEGREE, ELEN, NV, PE, W}
-use Rattle.cells.specs.Links.{parent}
 use Rattle.cells.specs.View.{Room, at, plus, rd, up}
 use Rattle.sizing.specs.Counters.{counted, lessened, passing}
 use Rattle.sizing.specs.Sizes.{Kept, Listed}

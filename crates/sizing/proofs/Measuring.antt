@@ -1,6 +1,6 @@
 -- Step 3 on plain lists: after it the mark of every element that a row of the new element has is the flag and the element's weight outside; nothing else is changed.
 -- Assumes nothing.
-use Prim.Native.Nat.{_+_, _-_, _<_, ℕ}
+use Prim.Native.Nat.{_-_, _<_, ℕ}
 use native.Mathlib.Omega.{arith}
 use mathlib.Core.List.{List}
 use mathlib.Core.Path.{_≡_, _∙_, ap}

@@ -4,16 +4,15 @@ use Prim.Native.Nat.{_+_, _<_, _≤_, ℕ}
 use native.Mathlib.Omega.{arith}
 use mathlib.Core.Bool.{Bool, cond, false, true}
 use mathlib.Core.List.{List, [], flatMap}
-use mathlib.Core.Logic.{_⊎_, inl, inr}
 use mathlib.Core.Path.{_≡_, _∙_, ap, sym}
 use lib.IntN.{ℤ}
-use lib.ListN.{getD, length}
+use lib.ListN.{getD}
 use Rattle.plain.proofs.Logic.{clash, either, none-if}
 use Rattle.plain.proofs.Members.{member-flatMap, member-joined}
 use Rattle.plain.specs.Lists.{member}
 use Rattle.plain.specs.Members.{In}
 use Rattle.definition.specs.Pivot.{collected, passed}
-use Rattle.definition.specs.State.{Graph, Kind, State, degree, elementsOf, isElement, isVariable, kind, live, merged, variablesOf}
+use Rattle.definition.specs.State.{Graph, Kind, State, degree, elementsOf, isElement, isVariable, kind, live, merged}
 use Rattle.definition.specs.Trim.{external}
 use Rattle.facts.proofs.Collected.{collected-var}
 use Rattle.facts.proofs.Flags.{external-below}

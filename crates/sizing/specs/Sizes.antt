@@ -1,7 +1,7 @@
 -- What step 3 asks of the memory, and what it leaves, on plain lists: E i are the elements of row i, and new the rows of the new element.
 -- Assumes nothing.
 use Prim.Native.Nat.{_+_, _-_, _<_, _≤_, _^_, ℕ}
-use mathlib.Core.Bool.{false, true}
+use mathlib.Core.Bool.{false}
 use mathlib.Core.List.{List, flatMap}
 use mathlib.Core.Path.{_≡_}
 use lib.Dec.{eqb}

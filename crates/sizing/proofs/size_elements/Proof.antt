@@ -1,6 +1,6 @@
 use Rattle.sizing.specs.Model.{sizedAt, sizedPart}
 use Rattle.cells.specs.View.{Room}
-use Prim.Native.Nat.{_+_, _<_, _≤_, _-_, _^_}
+use Prim.Native.Nat.{_+_, _≤_, _-_}
 use Rattle.plain.proofs.Turns.{begin, turn, finish}
 use Rattle.plain.specs.Turns.{Turned}
 use lib.ListN.{length}
