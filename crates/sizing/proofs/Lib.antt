@@ -6,3 +6,4 @@ pub mod Measuring
 pub mod Keeping
 pub mod Externals
 pub mod Raising
+pub mod Example
