@@ -1,0 +1,9 @@
+-- The modules of `sizing` that belong to no one function.
+pub mod Steps
+pub mod Counting
+pub mod Marks
+pub mod Measuring
+pub mod Keeping
+pub mod Externals
+pub mod Raising
+pub mod Example

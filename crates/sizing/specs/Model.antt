@@ -1,0 +1,39 @@
+-- What each function does to the memory: the code's own steps, as functions. The laws of `proofs/` say what these mean for the marks.
+-- Assumes nothing.
+use Prim.Native.Nat.{_+_, _-_, ℕ}
+use mathlib.Core.Bool.{cond}
+use mathlib.Core.List.{List}
+use lib.Dec.{leb, ltb}
+use lib.IntN.{ℤ}
+use Rattle.plain.specs.Turns.{times}
+use Rattle.cells.specs.Layout.{DEGREE, ELEN, NV, PE, W}
+use Rattle.cells.specs.View.{at, plus, rd, up}
+
+-- the counter of e begins
+unfoldable pub sizedFirst : ℕ → ℕ → ℕ → ℕ → List ℤ → List ℤ
+sizedFirst n weight flag e s = up n W s e (plus (rd n DEGREE s e) flag - weight)
+
+-- a row has e: the counter loses the row's weight
+unfoldable pub sizedElement : ℕ → ℕ → ℕ → ℕ → List ℤ → List ℤ
+sizedElement n weight flag e s =
+    cond (leb flag (rd n W s e)) (up n W s e (rd n W s e - weight)) (cond (ltb 0 (rd n W s e)) (sizedFirst n weight flag e s) s)
+
+-- the element in cell q of the list space
+unfoldable pub sizedAt : ℕ → List ℤ → ℕ → ℕ → ℕ → List ℤ → List ℤ
+sizedAt n l weight flag q s = sizedElement n weight flag (at l q) s
+
+-- the elements of a part of the list space
+unfoldable pub sizedPart : ℕ → List ℤ → ℕ → ℕ → ℕ → ℕ → List ℤ → List ℤ
+sizedPart n l weight flag p k s = times k (λ t. sizedAt n l weight flag (p + t)) s
+
+-- those of row i
+unfoldable pub sizedOf : ℕ → List ℤ → ℕ → ℕ → List ℤ → List ℤ
+sizedOf n l flag i s = sizedPart n l (rd n NV s i) flag (rd n PE s i) (rd n ELEN s i) s
+
+-- those of the row in cell q of the list space
+unfoldable pub sizedRow : ℕ → List ℤ → ℕ → ℕ → List ℤ → List ℤ
+sizedRow n l flag q s = sizedOf n l flag (at l q) s
+
+-- those of the rows of a part of the list space
+unfoldable pub sizedAll : ℕ → List ℤ → ℕ → ℕ → ℕ → List ℤ → List ℤ
+sizedAll n l flag from k s = times k (λ t. sizedRow n l flag (from + t)) s

@@ -1,0 +1,81 @@
+// Step 3 of the elimination: the external sizes of the elements that the rows of the new element have, by counters in the marks. A mark at the flag or above
+// is a counter: the flag, and what is left of the element's weight. A mark below it is no counter yet; 0 is an element that is no more.
+// Nothing here asks for a memory that makes sense: a contract is the function's own model, and the laws of `proofs/` say what it finds.
+ghost use mathlib.Core.Path.{_≡_};
+ghost use Prim.Native.Nat.{_<_, _^_};
+ghost use Rattle.cells.specs.View.{Room};
+ghost use Rattle.sizing.specs.Model.{sizedFirst, sizedElement, sizedAt, sizedPart, sizedRow, sizedAll};
+
+// The counter of `e` begins at its weight, and loses that of the first row.
+pub fn size_first(s: &mut [i64], n: usize, e: usize, weight: usize, flag: usize)
+    requires { ⌜ Room n (now s) × (flag < 2 ^ 63) ⌝ }
+    ensures { λ _. ⌜ (now (s .exit) ≡ sizedFirst n weight flag e (now (s .entry))) × Room n (now (s .exit)) ⌝ }
+{
+    let d = cells::rd(s, n, cells::DEGREE, e);
+    let all = cells::plus(d, flag);
+    let left = cells::less(all, weight);
+    cells::up(s, n, cells::W, e, left);
+}
+
+// A row of this weight has the element `e`.
+pub fn size_element(s: &mut [i64], n: usize, e: usize, weight: usize, flag: usize)
+    requires { ⌜ Room n (now s) × (flag < 2 ^ 63) ⌝ }
+    ensures { λ _. ⌜ (now (s .exit) ≡ sizedElement n weight flag e (now (s .entry))) × Room n (now (s .exit)) ⌝ }
+{
+    let mark = cells::rd(s, n, cells::W, e);
+    if flag <= mark {
+        let left = cells::less(mark, weight);
+        cells::up(s, n, cells::W, e, left);
+    } else if 0 < mark {
+        size_first(s, n, e, weight, flag);
+    }
+}
+
+// The same of the element in cell `q` of the lists.
+pub fn size_at(lists: &[i64], s: &mut [i64], n: usize, q: usize, weight: usize, flag: usize)
+    requires { ⌜ Room n (now s) × (flag < 2 ^ 63) ⌝ }
+    ensures { λ _. ⌜ (now (s .exit) ≡ sizedAt n (now (lists .entry)) weight flag q (now (s .entry))) × Room n (now (s .exit)) ⌝ }
+{
+    let e = cells::peek(lists, q);
+    size_element(s, n, e, weight, flag);
+}
+
+// The same of each of the `k` elements from `p` on.
+pub fn size_elements(
+    lists: &[i64],
+    s: &mut [i64],
+    n: usize,
+    p: usize,
+    k: usize,
+    weight: usize,
+    flag: usize,
+)
+    requires { ⌜ Room n (now s) × (flag < 2 ^ 63) × (p < 2 ^ 63) × (k < 2 ^ 63) ⌝ }
+    ensures { λ _. ⌜ (now (s .exit) ≡ sizedPart n (now (lists .entry)) weight flag p k (now (s .entry))) × Room n (now (s .exit)) ⌝ }
+{
+    for t in 0..k {
+        size_at(lists, s, n, p + t, weight, flag);
+    }
+}
+
+// The elements of the row in cell `q` of the lists.
+pub fn size_row(lists: &[i64], s: &mut [i64], n: usize, q: usize, flag: usize)
+    requires { ⌜ Room n (now s) × (flag < 2 ^ 63) ⌝ }
+    ensures { λ _. ⌜ (now (s .exit) ≡ sizedRow n (now (lists .entry)) flag q (now (s .entry))) × Room n (now (s .exit)) ⌝ }
+{
+    let i = cells::peek(lists, q);
+    let weight = cells::tab(s, n, cells::NV, i);
+    let p = cells::rd(s, n, cells::PE, i);
+    let k = cells::rd(s, n, cells::ELEN, i);
+    size_elements(lists, s, n, p, k, weight, flag);
+}
+
+// Those of each of the `k` rows from `from` on: the rows of the new element.
+pub fn size_all(lists: &[i64], s: &mut [i64], n: usize, from: usize, k: usize, flag: usize)
+    requires { ⌜ Room n (now s) × (flag < 2 ^ 63) × (from < 2 ^ 63) × (k < 2 ^ 63) ⌝ }
+    ensures { λ _. ⌜ (now (s .exit) ≡ sizedAll n (now (lists .entry)) flag from k (now (s .entry))) × Room n (now (s .exit)) ⌝ }
+{
+    for t in 0..k {
+        size_row(lists, s, n, from + t, flag);
+    }
+}
