@@ -87,29 +87,21 @@ TP = 13
 
 -- ---- tables used after it
 
--- the first child of element i; n is none
-abbrev pub CHILD : ℕ
-CHILD = 8
-
 -- the child behind i; n is none
 abbrev pub SIBLING : ℕ
 SIBLING = 9
 
--- the i-th entry of the stack
+-- the largest child of row i, while the lists of children are made; n is none
+abbrev pub LARGEST : ℕ
+LARGEST = 10
+
+-- the i-th entry of the stack: once the lists are made
 abbrev pub STACK : ℕ
 STACK = 10
 
--- the i-th element of the postorder
-abbrev pub SEQ : ℕ
-SEQ = 11
-
--- the next position of element i's block
-abbrev pub OFFSET : ℕ
-OFFSET = 12
-
--- the element that merged row i belongs to; a field of a node
-abbrev pub OWNER : ℕ
-OWNER = 5
+-- the first of what hangs under row i, and under n, which is no row: the roots; n is none
+abbrev pub FIRST : ℕ
+FIRST = 15
 
 -- ---- the cleaned pattern: clean, count, build; nothing reads it later
 

@@ -51,18 +51,11 @@ pub const SP: usize = 12;
 pub const TP: usize = 13;
 
 // Tables used after it.
-pub const CHILD: usize = 8;
-
 pub const SIBLING: usize = 9;
 
+pub const LARGEST: usize = 10;
+
 pub const STACK: usize = 10;
-
-pub const SEQ: usize = 11;
-
-pub const OFFSET: usize = 12;
-
-// A field of a node used after it.
-pub const OWNER: usize = 5;
 
 // ---- a cell of the list space
 

@@ -15,10 +15,10 @@ use Rattle.plain.specs.Lists.{keep, consIf, countUp, upTo}
 use Rattle.definition.specs.Tree.{biggest}
 use Rattle.cells.proofs.Fields.{room-up, rd-null, rd-up-same, rd-up-column}
 use Rattle.cells.proofs.Laws.{rd-up-cell, rd-up-field, parent-up-field}
-use Rattle.cells.specs.Layout.{NV, ELEN}
+use Rattle.cells.specs.Layout.{NV, ELEN, FIRST, LARGEST}
 use Rattle.cells.specs.Links.{parent}
 use Rattle.cells.specs.View.{rd, up, Room}
-use Rattle.tree.specs.Model.{FIRST, LARGEST, above, blankOne, blanked, asLarge, measuredUnder, measuredOne, measured}
+use Rattle.tree.specs.Model.{above, blankOne, blanked, asLarge, measuredUnder, measuredOne, measured}
 use Rattle.plain.proofs.Parts.{keep-last}
 
 -- ---- blank

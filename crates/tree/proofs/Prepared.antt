@@ -15,11 +15,11 @@ use Rattle.plain.specs.Members.{In}
 use Rattle.definition.specs.State.{Graph, rowCount, kind, denseRows}
 use Rattle.definition.specs.Tree.{sizeOf, childrenOf, roots, bigLast}
 use Rattle.definition.specs.Ordering.{mergedWith}
-use Rattle.cells.specs.Layout.{SIBLING}
+use Rattle.cells.specs.Layout.{SIBLING, FIRST}
 use Rattle.cells.specs.View.{rd, Room}
 use Rattle.tree.specs.Final.{Ended}
 use Rattle.tree.specs.Hanging.{Chain, Hanging}
-use Rattle.tree.specs.Model.{FIRST, above, classOf, blanked, measured, threaded, prepared}
+use Rattle.tree.specs.Model.{above, classOf, blanked, measured, threaded, prepared}
 use Rattle.tree.proofs.Kin.{above-low, under-row, under-none}
 use Rattle.tree.proofs.Owners.{Owned}
 use Rattle.tree.proofs.Ready.{Ready, ready}

@@ -18,12 +18,12 @@ use Rattle.definition.specs.State.{Graph, Kind, variable, merged, element, dens
 use Rattle.definition.specs.State as state
 use Rattle.definition.specs.Tree.{isChildOf, sizeOf, childrenOf, biggest}
 use Rattle.facts.proofs.Family.{children-in}
-use Rattle.cells.specs.Layout.{ELEN, NV}
+use Rattle.cells.specs.Layout.{ELEN, NV, FIRST, LARGEST}
 use Rattle.cells.specs.Links.{parent}
 use Rattle.cells.specs.View.{rd, Room}
 use Rattle.tree.specs.Final.{Ended}
 use Rattle.tree.specs.Hanging.{Hanging}
-use Rattle.tree.specs.Model.{FIRST, LARGEST, above, blanked, measured}
+use Rattle.tree.specs.Model.{above, blanked, measured}
 use Rattle.tree.proofs.Largest.{Blank, blanked-all, Measuring, measured-all, lastBig, heavyUnder}
 use Rattle.tree.proofs.Owners.{Owned, above-some, above-none}
 

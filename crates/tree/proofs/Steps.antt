@@ -9,10 +9,10 @@ use lib.Dec.{leb, eqb}
 use lib.IntN.{ℤ}
 use Rattle.plain.proofs.Turns.{finish}
 use Rattle.plain.specs.Turns.{Turned, times}
-use Rattle.cells.specs.Layout.{ELEN, MERGES, NV, SIBLING, STACK}
+use Rattle.cells.specs.Layout.{ELEN, MERGES, NV, SIBLING, STACK, FIRST, LARGEST}
 use Rattle.cells.specs.Links.{named, linked, parent, hang}
 use Rattle.cells.specs.View.{rd, up, wr, plus}
-use Rattle.tree.specs.Model.{FIRST, LARGEST, above, owned, blankOne, asLarge, measuredUnder, measuredOne, largestOf, classOf, listed, threadedOne, threaded, measured, blanked, prepared, Sheets, sheets, placed, Tour, tour, deeper, top, higher, entered, leftBehind, stepped, walked, ownedAll, ordered}
+use Rattle.tree.specs.Model.{above, owned, blankOne, asLarge, measuredUnder, measuredOne, largestOf, classOf, listed, threadedOne, threaded, measured, blanked, prepared, Sheets, sheets, placed, Tour, tour, deeper, top, higher, entered, leftBehind, stepped, walked, ownedAll, ordered}
 use Rattle.tree.specs.declared.Walk.{Walk}
 
 module _ (n : ℕ) (s : List ℤ) where

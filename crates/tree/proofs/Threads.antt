@@ -16,11 +16,11 @@ use Rattle.plain.specs.Lists.{member, keep, consIf, countUp}
 use Rattle.plain.specs.Members.{In}
 use Rattle.cells.proofs.Fields.{room-up}
 use Rattle.cells.proofs.Laws.{mem, room-yes, rd-up-field, column-hit, parent-up-field, roomy-up}
-use Rattle.cells.specs.Layout.{NV, SIBLING}
+use Rattle.cells.specs.Layout.{NV, SIBLING, FIRST, LARGEST}
 use Rattle.cells.specs.Links.{parent}
 use Rattle.cells.specs.View.{rd, up, Room}
 use Rattle.tree.specs.Hanging.{Chain, Hanging}
-use Rattle.tree.specs.Model.{FIRST, LARGEST, above, largestOf, classOf, listed, threadedOne, threaded}
+use Rattle.tree.specs.Model.{above, largestOf, classOf, listed, threadedOne, threaded}
 
 -- all but the lists is as before
 pub record Same (n : ℕ) (s m : List ℤ) : Type 0 where

@@ -21,10 +21,10 @@ use Rattle.plain.specs.Turns.{times}
 use Rattle.cells.proofs.Fields.{room-up}
 use Rattle.cells.proofs.Laws.{mem, room-yes, rd-up-hit, rd-up-field}
 use Rattle.cells.proofs.Slices.{plus-sum}
-use Rattle.cells.specs.Layout.{SIBLING, STACK}
+use Rattle.cells.specs.Layout.{SIBLING, STACK, FIRST}
 use Rattle.cells.specs.View.{rd, up, Room}
 use Rattle.tree.specs.Hanging.{Chain, Hanging}
-use Rattle.tree.specs.Model.{FIRST, Sheets, Tour, deeper, top, higher, entered, leftBehind, stepped, begun, walked}
+use Rattle.tree.specs.Model.{Sheets, Tour, deeper, top, higher, entered, leftBehind, stepped, begun, walked}
 use Rattle.tree.proofs.Sheet.{Sheet, sheet-more}
 
 -- a row of the stack, with the rows behind it in its list

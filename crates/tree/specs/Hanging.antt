@@ -4,9 +4,8 @@ use Prim.Native.Nat.{ℕ, _≤_, _<_}
 use mathlib.Core.Path.{_≡_}
 use mathlib.Core.List.{List, [], _∷_}
 use lib.IntN.{ℤ}
-use Rattle.cells.specs.Layout.{SIBLING}
+use Rattle.cells.specs.Layout.{SIBLING, FIRST}
 use Rattle.cells.specs.View.{rd}
-use Rattle.tree.specs.Model.{FIRST}
 
 -- from x the links `behind` lead through the rows of the list
 abbrev pub Chain : ℕ → (ℕ → ℕ) → ℕ → List ℕ → Type 0

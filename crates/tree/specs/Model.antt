@@ -7,18 +7,10 @@ use mathlib.Core.List.{List}
 use lib.Dec.{ltb, leb, eqb}
 use lib.IntN.{ℤ}
 use Rattle.plain.specs.Turns.{times}
-use Rattle.cells.specs.Layout.{ELEN, MERGES, NV, SIBLING, STACK}
+use Rattle.cells.specs.Layout.{ELEN, MERGES, NV, SIBLING, LARGEST, STACK, FIRST}
 use Rattle.cells.specs.Links.{named, linked, parent, hang}
 use Rattle.cells.specs.View.{rd, up, wr, plus}
 use Rattle.tree.specs.declared.Walk.{Walk}
-
--- the first that hangs under i, for i up to n: the table of n + 1 cells, which had the pointers of the pattern; n is none
-abbrev pub FIRST : ℕ
-FIRST = 15
-
--- the largest child of an element; n is none. It stands where the stack will be.
-abbrev pub LARGEST : ℕ
-LARGEST = 10
 
 -- what row i hangs under: its parent, or n
 unfoldable pub above : ℕ → List ℤ → ℕ → ℕ

@@ -8,9 +8,6 @@ ghost use Rattle.cells.specs.View.{Room, rd, up};
 ghost use Rattle.tree.specs.Final.{Outputs};
 ghost use Rattle.tree.specs.Model.{above, owned, ownedAll, blankOne, blanked, asLarge, measuredUnder, measuredOne, measured, largestOf, classOf, listed, threadedOne, threaded, prepared, sheets, placed, tour, Small, deeper, top, higher, stepped, walked};
 
-// The first child of each element: the table that had the pointers of the pattern is `cells::column`. The largest child stands where the stack will be.
-const LARGEST: usize = 10;
-
 // ---- owners
 
 // What row `i` hangs under: its parent, or `n`.
@@ -60,7 +57,7 @@ fn blank_one(s: &mut [i64], n: usize, j: usize)
     ensures { λ _. ⌜ (now (s .exit) ≡ blankOne n j (now (s .entry))) × Room n (now (s .exit)) ⌝ }
 {
     cells::put_column(s, n, j, n);
-    cells::put(s, n, LARGEST, j, n);
+    cells::put(s, n, cells::LARGEST, j, n);
 }
 
 fn blank(s: &mut [i64], n: usize)
@@ -88,9 +85,9 @@ fn measure_under(s: &mut [i64], n: usize, p: usize, j: usize)
     requires { ⌜ Room n (now s) × (j < 2 ^ 63) ⌝ }
     ensures { λ _. ⌜ (now (s .exit) ≡ measuredUnder n p j (now (s .entry))) × Room n (now (s .exit)) ⌝ }
 {
-    let b = cells::tab(s, n, LARGEST, p);
+    let b = cells::tab(s, n, cells::LARGEST, p);
     if as_large(s, n, b, j) {
-        cells::put(s, n, LARGEST, p, j);
+        cells::put(s, n, cells::LARGEST, p, j);
     }
 }
 
@@ -123,7 +120,7 @@ fn largest_of(s: &[i64], n: usize, p: usize, j: usize) -> bool
     ensures { λ r. ⌜ r ≡ largestOf n (now (s .entry)) p j ⌝ }
 {
     if p < n {
-        cells::tab(s, n, LARGEST, p) == j
+        cells::tab(s, n, cells::LARGEST, p) == j
     } else {
         false
     }
