@@ -1,0 +1,2 @@
+-- The laws of `placing` that belong to no one function.
+pub mod Steps
