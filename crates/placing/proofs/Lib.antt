@@ -1,2 +1,3 @@
 -- The laws of `placing` that belong to no one function.
 pub mod Steps
+pub mod Survivors
