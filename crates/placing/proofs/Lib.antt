@@ -1,3 +1,5 @@
 -- The laws of `placing` that belong to no one function.
 pub mod Steps
 pub mod Survivors
+pub mod Element
+pub mod Whole
