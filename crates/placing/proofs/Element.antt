@@ -114,6 +114,11 @@ module _ (n : ℕ) (s : List ℤ) (p size count : ℕ) where
     unfolding finished marked sealed
     finished-gone h = rw (le-ltb 0 count h) (simp (mem, room-yes n s room, lt-ltb p n hp))
 
+    -- its list stays where it is
+    pub finished-place : 0 < count → rd n PE (finished n s p size count) p ≡ rd n PE s p
+    unfolding finished marked sealed
+    finished-place h = rw (lt-ltb 0 count h) (simp mem)
+
     pub finished-orphan : count ≤ 0 → parent n (finished n s p size count) p ≡ none
     unfolding finished marked sealed
     finished-orphan h = rw (le-ltb 0 count h, named-none n n (omega arith)) (simp (mem, room-yes n s room, lt-ltb p n hp))

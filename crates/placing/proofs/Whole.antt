@@ -1,4 +1,4 @@
--- Step 6 in the memory, against the definition's `placed` and `asElement`: `placed-rest`, `placed-chained`, `placed-least`, `placed-flagged`.
+-- Step 6 in the memory, against the definition's `placed` and `asElement`: `placed-rest`, `placed-chained`, `placed-least`, `placed-trimmed`, `placed-flagged`.
 -- Assumes nothing.
 use Prim.Native.Nat.{ℕ, _+_, _≤_, _<_, _^_}
 use native.Mathlib.Omega.{arith}
@@ -14,6 +14,7 @@ use lib.ListN.{length, getD}
 use Rattle.plain.proofs.Entries.{upd-same, upd-other}
 use Rattle.plain.proofs.Logic.{clash, either}
 use Rattle.plain.proofs.Members.{member-here, member-there, member-nil, not-cons, not-here, apart, not-kept, keep-same}
+use Rattle.plain.proofs.Repeats.{length-keep}
 use Rattle.plain.proofs.Turns.{times-fold}
 use Rattle.plain.specs.Lists.{member, keep, isNone}
 use Rattle.plain.specs.Members.{In, Distinct}
@@ -29,15 +30,15 @@ use Rattle.cells.specs.Layout.{LEN, WANT, ELEN, DEGREE, W, PE, NV, ORD}
 use Rattle.cells.specs.Links.{parent}
 use Rattle.cells.specs.View.{Room, at, rd}
 use Rattle.chain.specs.Chained.{Chained}
-use Rattle.packed.proofs.Frame.{len-of}
+use Rattle.packed.proofs.Frame.{ends, len-of}
 use Rattle.packed.proofs.Keeping.{space-kept}
-use Rattle.packed.proofs.Spaces.{space-same, space-renamed}
+use Rattle.packed.proofs.Spaces.{space-lowered, space-same, space-renamed}
 use Rattle.packed.specs.Gather.{Cut, keptPart}
-use Rattle.packed.specs.Places.{Space, places}
+use Rattle.packed.specs.Places.{Owns, Space, places}
 use Rattle.drawn.specs.Drawn.{listOf, Drawn, Rest, Within}
 use Rattle.drawn.specs.Flags.{Flagged}
 use Rattle.placing.specs.Model.{Spot, spot, placedOne, placedAll, finished}
-use Rattle.placing.proofs.Element.{finished-field, finished-other, finished-parent-other, finished-length, finished-degree, finished-there, finished-gone, finished-orphan, finished-chained, finished-space}
+use Rattle.placing.proofs.Element.{finished-field, finished-other, finished-parent-other, finished-length, finished-degree, finished-there, finished-gone, finished-place, finished-orphan, finished-chained, finished-space}
 use Rattle.placing.proofs.Survivors.{Halfway, survivors-placed}
 
 -- what step 6 begins with: the graph g, in which the pivot p has all of its pivots, the new element's rows, and the degree lists qs without them
@@ -280,3 +281,78 @@ module _ (n : ℕ) (l s : List ℤ) (g : Graph) (p : ℕ) (new : List ℕ) (cnt 
         degrees = λ v hv. degree-at v hv (same? v p);
         parents = λ v hv z. parent-at v hv z (same? v p);
       }
+
+  -- ---- the limit, of an element that was made behind all others
+
+  short : kept .count ≤ rd n LEN s p
+  short = omega (arith, placed-count, length-keep (hasWeight g) new, len-of l (places n s) lim X (h .space .lists) p, ap length (upd-same (listOf g) p new))
+
+  pub placed-trimmed : base ≤ rd n PE s p → rd n PE s p ≤ lim → ((i c : ℕ) → i ≢ p → Owns (places n s) i c → c < rd n PE s p)
+      → Rest n (kept .lists) s2 t cnt base (rd n PE s p + kept .count)
+  placed-trimmed a b o =
+      let r = placed-rest in
+      record {
+        space = space-lowered n (listOf t) (kept .lists) s2 cnt base lim space3 (rd n PE s p + kept .count) (omega arith) (omega (arith, below, space3 .lists .fits))
+            (λ i c w. under i c w (same? i p));
+        weights = r .weights;
+        wants = r .wants;
+        elens = r .elens;
+        degrees = r .degrees;
+        parents = r .parents;
+      }
+    where
+      below : rd n PE s p + kept .count ≤ lim
+      below =
+          ⊎-elim (λ z. omega (arith, ends l (places n s) lim X (h .space .lists) p z, short)) (λ z. omega (arith, short)) (split 0 (rd n LEN s p))
+
+      under : (i c : ℕ) → Owns (places n s2) i c → (i ≡ p) ⊎ (i ≢ p) → c < rd n PE s p + kept .count
+      under i c w (inl e) =
+          let z : rd n LEN s2 i ≡ kept .count = ap (rd n LEN s2) e ∙ finished-length n s1 p size (kept .count) (half .room) (ready .inside) in
+          let y : rd n PE s2 i ≡ rd n PE s p =
+          ap (rd n PE s2) e ∙ finished-place n s1 p size (kept .count) (half .room) (ready .inside) (omega (arith, w .from, w .to)) ∙ half .fields PE p refl refl refl refl refl in
+          omega (arith, w .to)
+      under i c w (inr ne) =
+          let z : rd n LEN s2 i ≡ rd n LEN s i = finished-other n s1 p size (kept .count) LEN i ne ∙ half .fields LEN i refl refl refl refl refl in
+          let y : rd n PE s2 i ≡ rd n PE s i = finished-other n s1 p size (kept .count) PE i ne ∙ half .fields PE i refl refl refl refl refl in
+          omega (arith, o i c ne (record { from = omega (arith, w .from); to = omega (arith, w .to) }))
+
+  -- ---- the marks
+
+  mark-other : (x : ℕ) → x ≢ p → rd n W s2 x ≡ rd n W s x
+  mark-other x ne = finished-other n s1 p size (kept .count) W x ne ∙ half .fields W x refl refl refl refl refl
+
+  mark-p : (rd n W s2 p ≤ 1) × (0 < length survivors → rd n W s2 p ≡ 1)
+  mark-p = (
+    ⊎-elim (λ c. omega (arith, finished-there n s1 p size (kept .count) (half .room) (ready .inside) c))
+        (λ c. omega (arith, finished-gone n s1 p size (kept .count) (half .room) (ready .inside) c)) (split 0 (kept .count)),
+    λ c. finished-there n s1 p size (kept .count) (half .room) (ready .inside) (omega (arith, placed-count)),
+  )
+
+  pub placed-flagged : (flag : ℕ) → 1 < flag → Flagged n s g flag → Flagged n s2 t flag
+  placed-flagged flag two f =
+      record {
+        below = λ x hx. below x hx (same? x p);
+        variable = λ x hx a.
+            let ne = var-apart x a in
+            omega (arith, mark-other x ne, f .variable x hx (sym (ap isVariable (kind-t x ne)) ∙ a));
+        element = λ x hx a b c. there x hx a b c (same? x p);
+        absorbed = λ x hx a b. gone x hx a b (same? x p);
+      }
+    where
+      below : (x : ℕ) → x < n → (x ≡ p) ⊎ (x ≢ p) → rd n W s2 x < flag
+      below x hx (inl e) = omega (arith, ap (rd n W s2) e, mark-p .0)
+      below x hx (inr ne) = omega (arith, mark-other x ne, f .below x hx)
+
+      there : (x : ℕ) → x < n → isElement (kind t x) ≡ true → live t x ≡ true → 0 < length (variablesOf t x) → (x ≡ p) ⊎ (x ≢ p) → 1 ≤ rd n W s2 x
+      there x hx a b c (inl e) =
+          omega (arith, ap (rd n W s2) e, mark-p .1 (omega (arith, ap (λ (y : ℕ). length (variablesOf t y)) e, ap length variables-p)))
+      there x hx a b c (inr ne) =
+          omega (
+            arith,
+            mark-other x ne,
+            f .element x hx (sym (ap isElement (kind-t x ne)) ∙ a) (sym (ap isNone (parent-t x)) ∙ b) (omega (arith, ap length (variables-t x ne))),
+          )
+
+      gone : (x : ℕ) → x < n → isElement (kind t x) ≡ true → live t x ≡ false → (x ≡ p) ⊎ (x ≢ p) → rd n W s2 x ≡ 0
+      gone x hx a b (inl e) = clash (live t x) (ap (live t) e ∙ ap isNone (parent-t p) ∙ ready .orphan) b
+      gone x hx a b (inr ne) = mark-other x ne ∙ f .absorbed x hx (sym (ap isElement (kind-t x ne)) ∙ a) (sym (ap isNone (parent-t x)) ∙ b)
