@@ -3,3 +3,4 @@ pub mod Steps
 pub mod Survivors
 pub mod Element
 pub mod Whole
+pub mod Finish
