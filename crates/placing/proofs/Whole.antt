@@ -11,7 +11,7 @@ use borrow.Author.Tests.{lt-ltb, le-ltb, ltb-true, ltb-false}
 use lib.Dec.{eqb, ltb}
 use lib.IntN.{ℤ}
 use lib.ListN.{length, getD}
-use Rattle.plain.proofs.Entries.{upd-same, upd-other}
+use Rattle.plain.proofs.Entries.{entries-same, upd-same, upd-other}
 use Rattle.plain.proofs.Logic.{clash, either}
 use Rattle.plain.proofs.Members.{member-here, member-there, member-nil, not-cons, not-here, apart, not-kept, keep-same}
 use Rattle.plain.proofs.Repeats.{length-keep}
@@ -19,26 +19,27 @@ use Rattle.plain.proofs.Turns.{times-fold}
 use Rattle.plain.specs.Lists.{member, keep, isNone}
 use Rattle.plain.specs.Members.{In, Distinct}
 use Rattle.plain.specs.Turns.{entries, upd}
-use Rattle.definition.specs.State.{Graph, Kind, merged, element, kind, weight, elementsOf, variablesOf, degree, hasWeight, live, isVariable, isElement, queueOf}
+use Rattle.definition.specs.State.{Graph, Kind, merged, element, kind, weight, elementsOf, variablesOf, degree, hasWeight, live, isVariable, isElement, isMerged, queueOf}
 use Rattle.definition.specs.State as state
 use Rattle.definition.specs.Place.{Placed, placed, asElement}
 use Rattle.facts.proofs.Placing.{SameButDegrees, placed-same, placed-other, element-weights, element-parents, element-kind-other, element-elements-other, element-variables-other, element-degree-other, element-kind, element-variables, element-elements, element-degree}
 use Rattle.facts.proofs.Sizes.{sized-asElement}
 use Rattle.facts.specs.Invariant.{Sized}
-use Rattle.cells.proofs.Slices.{same?, split}
-use Rattle.cells.specs.Layout.{LEN, WANT, ELEN, DEGREE, W, PE, NV, ORD}
+use Rattle.cells.proofs.Slices.{plus-sum, same?, split}
+use Rattle.cells.specs.Layout.{LEN, WANT, ELEN, DEGREE, W, PE, NEXT, LAST, HEAD, NV, ORD, MERGES}
 use Rattle.cells.specs.Links.{parent}
-use Rattle.cells.specs.View.{Room, at, rd}
+use Rattle.cells.specs.View.{Room, at, rd, plus}
 use Rattle.chain.specs.Chained.{Chained}
 use Rattle.packed.proofs.Frame.{ends, len-of}
-use Rattle.packed.proofs.Keeping.{space-kept}
+use Rattle.packed.proofs.Keeping.{kept-part, space-kept}
 use Rattle.packed.proofs.Spaces.{space-lowered, space-same, space-renamed}
 use Rattle.packed.specs.Gather.{Cut, keptPart}
 use Rattle.packed.specs.Places.{Owns, Space, places}
 use Rattle.drawn.specs.Drawn.{listOf, Drawn, Rest, Within}
 use Rattle.drawn.specs.Flags.{Flagged}
+use Rattle.drawn.specs.Log.{Logged}
 use Rattle.placing.specs.Model.{Spot, spot, placedOne, placedAll, finished}
-use Rattle.placing.proofs.Element.{finished-field, finished-other, finished-parent-other, finished-length, finished-degree, finished-there, finished-gone, finished-place, finished-orphan, finished-chained, finished-space}
+use Rattle.placing.proofs.Element.{finished-field, finished-other, finished-parent-other, finished-length, finished-degree, finished-size, finished-there, finished-gone, finished-place, finished-orphan, finished-chained, finished-space}
 use Rattle.placing.proofs.Survivors.{Halfway, survivors-placed}
 
 -- what step 6 begins with: the graph g, in which the pivot p has all of its pivots, the new element's rows, and the degree lists qs without them
@@ -356,3 +357,48 @@ module _ (n : ℕ) (l s : List ℤ) (g : Graph) (p : ℕ) (new : List ℕ) (cnt 
       gone : (x : ℕ) → x < n → isElement (kind t x) ≡ true → live t x ≡ false → (x ≡ p) ⊎ (x ≢ p) → rd n W s2 x ≡ 0
       gone x hx a b (inl e) = clash (live t x) (ap (live t) e ∙ ap isNone (parent-t p) ∙ ready .orphan) b
       gone x hx a b (inr ne) = mark-other x ne ∙ f .absorbed x hx (sym (ap isElement (kind-t x ne)) ∙ a) (sym (ap isNone (parent-t x)) ∙ b)
+
+  -- ---- what else the memory keeps
+
+  -- every field that step 6 does not write
+  pub placed-fields : (f v : ℕ) → eqb HEAD f ≡ false → eqb NEXT f ≡ false → eqb LAST f ≡ false → eqb DEGREE f ≡ false → eqb WANT f ≡ false → eqb LEN f ≡ false
+      → eqb ELEN f ≡ false → eqb W f ≡ false → eqb PE f ≡ false → rd n f s2 v ≡ rd n f s v
+  placed-fields f v a b c x y u w i j = finished-field n s1 p size (kept .count) f v u x w i j ∙ half .fields f v a b c x y
+
+  -- and those of the other rows that it writes at the pivot alone
+  pub placed-others : (f v : ℕ) → v ≢ p → eqb HEAD f ≡ false → eqb NEXT f ≡ false → eqb LAST f ≡ false → eqb DEGREE f ≡ false → eqb WANT f ≡ false → rd n f s2 v ≡ rd n f s v
+  placed-others f v ne a b c x y = finished-other n s1 p size (kept .count) f v ne ∙ half .fields f v a b c x y
+
+  -- the element's size: its pivots and its remaining weight
+  pub placed-size : weight g p + size < 2 ^ 63 → rd n ELEN s2 p ≡ weight t p + degree t p
+  placed-size small =
+      finished-size n s1 p size (kept .count) (half .room) (ready .inside)
+      ∙ ap (λ (x : ℕ). plus x size) (half .fields NV p refl refl refl refl refl ∙ h .weights p (ready .inside))
+      ∙ plus-sum (weight g p) size small ∙ omega (arith, weight-t p, degree-p)
+
+  -- the list space is as long as it was
+  pub placed-long : length (kept .lists) ≡ length l
+  placed-long =
+      kept-part n WANT s1 l (rd n PE s p) (rd n LEN s p)
+      (⊎-elim (λ z. omega (arith, ends l (places n s) lim X (h .space .lists) p z, h .space .lists .fits)) (λ z. omega arith) (split 0 (rd n LEN s p)))
+      (λ z. omega (arith, ends l (places n s) lim X (h .space .lists) p z, h .space .lists .fits))
+      .long
+
+  -- ---- the log of merges, where the pivot was not merged
+
+  merged-t : isMerged (kind g p) ≡ false → (v : ℕ) → isMerged (kind t v) ≡ isMerged (kind g v)
+  merged-t a v = go (same? v p)
+    where
+      go : (v ≡ p) ⊎ (v ≢ p) → isMerged (kind t v) ≡ isMerged (kind g v)
+      go (inl e) = subst⁻¹ (λ (x : ℕ). isMerged (kind t x) ≡ isMerged (kind g x)) e (ap isMerged kind-p ∙ sym a)
+      go (inr ne) = ap isMerged (kind-t v ne)
+
+  pub placed-logged : isMerged (kind g p) ≡ false → (ms : List ℕ) → Logged n s g ms → Logged n s2 t ms
+  placed-logged a ms k =
+      record {
+        log = entries-same (rd n MERGES s) (rd n MERGES s2) 0 0 (length ms) (λ i b. placed-fields MERGES (0 + i) refl refl refl refl refl refl refl refl refl) ∙ k .log;
+        once = k .once;
+        inside = λ v i. (k .inside v i .0, merged-t a v ∙ k .inside v i .1);
+        all = λ v hv b. k .all v hv (sym (merged-t a v) ∙ b);
+        later = λ i v b e. ⊎-elim (λ x. inl (merged-t a v ∙ x)) (λ x. inr x) (k .later i v b (sym (parent-t (getD ms i 0)) ∙ e));
+      }
