@@ -1,20 +1,19 @@
 -- The pivot's row as an element in the memory: what is stored, and what is as before.
 -- Assumes nothing.
-use Prim.Native.Nat.{ℕ, _+_, _≤_, _<_}
+use Prim.Native.Nat.{ℕ, _≤_, _<_}
 use native.Mathlib.Omega.{arith}
-use mathlib.Core.Path.{_≡_, refl, sym, ap, _∙_, subst, subst⁻¹}
+use mathlib.Core.Path.{_≡_, refl, sym, ap, _∙_, subst}
 use mathlib.Core.Logic.{_≢_, _⊎_, inl, inr}
-use mathlib.Core.Bool.{Bool, true, false, cond}
+use mathlib.Core.Bool.{false}
 use mathlib.Core.List.{List}
 use mathlib.Core.Option.{Option, none}
-use borrow.Author.Tests.{lt-ltb, le-ltb, ltb-true, ltb-false}
+use borrow.Author.Tests.{lt-ltb, le-ltb, ltb-false}
 use lib.Dec.{eqb, ltb}
 use lib.IntN.{ℤ}
 use Rattle.plain.proofs.Entries.{entries-none}
-use Rattle.plain.proofs.Logic.{cond-has, clash}
+use Rattle.plain.proofs.Logic.{cond-has}
 use Rattle.plain.specs.Lists.{member}
 use Rattle.plain.specs.Turns.{entries}
-use Rattle.cells.proofs.Fields.{room-up}
 use Rattle.cells.proofs.Laws.{mem, rd-hang-field, room-yes}
 use Rattle.cells.proofs.Parents.{named-none, room-hang}
 use Rattle.cells.proofs.Slices.{same?}
@@ -25,7 +24,7 @@ use Rattle.chain.proofs.Frame.{chained-up, chained-hang, chained-degree}
 use Rattle.chain.specs.Chained.{Chained}
 use Rattle.packed.proofs.Orders.{sorted-by, sorted-fewer}
 use Rattle.packed.proofs.Spaces.{space-field}
-use Rattle.packed.specs.Places.{Mem, Owns, Space, places}
+use Rattle.packed.specs.Places.{Owns, Space, places}
 use Rattle.placing.specs.Model.{sealed, marked, finished}
 
 -- ---- a parent stored for an object that is dead

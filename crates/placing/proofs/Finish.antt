@@ -2,7 +2,7 @@
 -- Assumes nothing.
 use Prim.Native.Nat.{ℕ, _+_, _-_, _≤_, _<_, _^_}
 use native.Mathlib.Omega.{arith}
-use mathlib.Core.Path.{_≡_, sym, ap, _∙_}
+use mathlib.Core.Path.{_≡_, ap, _∙_}
 use mathlib.Core.Logic.{_≢_}
 use mathlib.Core.Bool.{Bool, true, false}
 use mathlib.Core.List.{List, _∷_}
@@ -13,7 +13,7 @@ use Rattle.plain.proofs.Logic.{clash}
 use Rattle.plain.proofs.Members.{not-in, not-kept}
 use Rattle.plain.specs.Lists.{member, keep, total, isNone}
 use Rattle.plain.specs.Members.{In}
-use Rattle.definition.specs.State.{Graph, State, kind, weight, degree, hasWeight, isVariable, queueOf}
+use Rattle.definition.specs.State.{Graph, State, kind, weight, hasWeight, isVariable, queueOf}
 use Rattle.definition.specs.Elimination.{eliminate, finish}
 use Rattle.definition.specs.Pivot.{collected, delisted}
 use Rattle.facts.proofs.Collected.{collected-var, distinct-collected, pivot-outside}
@@ -21,7 +21,7 @@ use Rattle.facts.proofs.Invariant.{var-inside}
 use Rattle.facts.proofs.Pivots.{Pivoted}
 use Rattle.facts.proofs.Queues.{delisted-gone, delisted-was}
 use Rattle.facts.proofs.Sizes.{length-delisted}
-use Rattle.facts.proofs.Step.{after3, gone-after, survivorsOf, restOf}
+use Rattle.facts.proofs.Step.{after3, gone-after}
 use Rattle.facts.proofs.Stepped.{After, away, remains, afterMerge, afterTrim, inside, joined2, var-parent2}
 use Rattle.facts.proofs.Weighed.{pivot-heavy}
 use Rattle.facts.specs.Invariant.{Inv, Quotient, Var}

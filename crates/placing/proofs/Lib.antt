@@ -2,5 +2,6 @@
 pub mod Steps
 pub mod Survivors
 pub mod Element
+pub mod Becoming
 pub mod Whole
 pub mod Finish

@@ -2,12 +2,12 @@
 -- Assumes nothing.
 use Prim.Native.Nat.{ℕ, _≤_, _<_, min}
 use native.Mathlib.Omega.{arith}
-use mathlib.Core.Path.{_≡_, refl, sym, ap, _∙_, subst, subst⁻¹}
+use mathlib.Core.Path.{_≡_, refl, sym, ap, _∙_, subst⁻¹}
 use mathlib.Core.Logic.{_≢_, _⊎_, inl, inr}
 use mathlib.Core.Bool.{Bool, true, false, cond, not, _&&_, _||_}
 use mathlib.Core.List.{List, [], _∷_, foldl}
-use borrow.Author.Tests.{lt-ltb, le-ltb, ltb-true, ltb-false, ne-eqb}
-use lib.Dec.{eqb, ltb}
+use borrow.Author.Tests.{lt-ltb, ltb-true, ltb-false, ne-eqb}
+use lib.Dec.{eqb}
 use lib.IntN.{ℤ}
 use lib.ListN.{length, length-set}
 use lib.Seq.{getD-set-same, getD-set-other}
@@ -28,7 +28,7 @@ use Rattle.chain.proofs.Fronts.{front-rep, push-fresh, size-push}
 use Rattle.chain.proofs.Push.{pushed-degree, pushed-degree-other, pushed-other, pushed-parent, pushed-room}
 use Rattle.chain.specs.Chained.{Chained}
 use Rattle.chain.specs.Model.{pushed}
-use Rattle.placing.specs.Model.{degreeOf, Spot, spot, enlistedAt, placedRow, placedOne}
+use Rattle.placing.specs.Model.{degreeOf, Spot, enlistedAt, placedRow, placedOne}
 
 -- From the scratch s, of the pivot p and the graph g before step 6: m is what the code has, q what the definition has, and the rows of `rest` are to be placed.
 pub record Halfway (n p : ℕ) (g : Graph) (s : List ℤ) (m : Spot) (q : Placed) (rest : List ℕ) : Type 0 where

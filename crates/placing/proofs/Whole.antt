@@ -5,40 +5,41 @@ use native.Mathlib.Omega.{arith}
 use mathlib.Core.Path.{_≡_, refl, sym, ap, _∙_, subst, subst⁻¹}
 use mathlib.Core.Logic.{_≢_, _⊎_, inl, inr, ⊎-elim}
 use mathlib.Core.Bool.{Bool, true, false, cond, not, _&&_}
-use mathlib.Core.List.{List, [], _∷_, _++_, foldl}
+use mathlib.Core.List.{List, [], _∷_, foldl}
 use mathlib.Core.Option.{Option, none, some}
-use borrow.Author.Tests.{lt-ltb, le-ltb, ltb-true, ltb-false}
+use borrow.Author.Tests.{le-ltb, ltb-false}
 use lib.Dec.{eqb, ltb}
 use lib.IntN.{ℤ}
 use lib.ListN.{length, getD}
-use Rattle.plain.proofs.Entries.{entries-same, upd-same, upd-other}
+use Rattle.plain.proofs.Entries.{upd-same, upd-other}
 use Rattle.plain.proofs.Logic.{clash, either}
-use Rattle.plain.proofs.Members.{member-here, member-there, member-nil, not-cons, not-here, apart, not-kept, keep-same}
+use Rattle.plain.proofs.Members.{member-here, member-there, member-nil, not-cons, apart, not-kept, keep-same}
 use Rattle.plain.proofs.Repeats.{length-keep}
 use Rattle.plain.proofs.Turns.{times-fold}
 use Rattle.plain.specs.Lists.{member, keep, isNone}
 use Rattle.plain.specs.Members.{In, Distinct}
 use Rattle.plain.specs.Turns.{entries, upd}
-use Rattle.definition.specs.State.{Graph, Kind, merged, element, kind, weight, elementsOf, variablesOf, degree, hasWeight, live, isVariable, isElement, isMerged, queueOf}
+use Rattle.definition.specs.State.{Graph, Kind, kind, weight, degree, hasWeight, live, isVariable, isMerged, queueOf}
 use Rattle.definition.specs.State as state
 use Rattle.definition.specs.Place.{Placed, placed, asElement}
-use Rattle.facts.proofs.Placing.{SameButDegrees, placed-same, placed-other, element-weights, element-parents, element-kind-other, element-elements-other, element-variables-other, element-degree-other, element-kind, element-variables, element-elements, element-degree}
+use Rattle.facts.proofs.Placing.{element-weights, element-degree-other}
 use Rattle.facts.proofs.Sizes.{sized-asElement}
 use Rattle.facts.specs.Invariant.{Sized}
 use Rattle.cells.proofs.Slices.{plus-sum, same?, split}
 use Rattle.cells.specs.Layout.{LEN, WANT, ELEN, DEGREE, W, PE, NEXT, LAST, HEAD, NV, ORD, MERGES}
 use Rattle.cells.specs.Links.{parent}
-use Rattle.cells.specs.View.{Room, at, rd, plus}
+use Rattle.cells.specs.View.{at, rd, plus}
 use Rattle.chain.specs.Chained.{Chained}
 use Rattle.packed.proofs.Frame.{ends, len-of}
 use Rattle.packed.proofs.Keeping.{kept-part, space-kept}
 use Rattle.packed.proofs.Spaces.{space-lowered, space-same, space-renamed}
 use Rattle.packed.specs.Gather.{Cut, keptPart}
 use Rattle.packed.specs.Places.{Owns, Space, places}
-use Rattle.drawn.specs.Drawn.{listOf, Drawn, Rest, Within}
+use Rattle.drawn.specs.Drawn.{listOf, Rest, Within}
 use Rattle.drawn.specs.Flags.{Flagged}
 use Rattle.drawn.specs.Log.{Logged}
 use Rattle.placing.specs.Model.{Spot, spot, placedOne, placedAll, finished}
+use Rattle.placing.proofs.Becoming.{Became, became, no-variable, var-apart, flagged-by, logged-by}
 use Rattle.placing.proofs.Element.{finished-field, finished-other, finished-parent-other, finished-length, finished-degree, finished-size, finished-there, finished-gone, finished-place, finished-orphan, finished-chained, finished-space}
 use Rattle.placing.proofs.Survivors.{Halfway, survivors-placed}
 
@@ -138,41 +139,8 @@ module _ (n : ℕ) (l s : List ℤ) (g : Graph) (p : ℕ) (new : List ℕ) (cnt 
   abbrev t : Graph
   t = q .graph
 
-  same : SameButDegrees (asElement p survivors size g) t
-  same = placed-same left size survivors start
-
-  weight-t : (v : ℕ) → weight t v ≡ weight g v
-  weight-t v = half .weights v
-
-  parent-t : (v : ℕ) → state.parent t v ≡ state.parent g v
-  parent-t v = ap (λ (w : List (Option ℕ)). getD w v none) (same .parents ∙ element-parents p survivors size g)
-
-  kind-t : (v : ℕ) → v ≢ p → kind t v ≡ kind g v
-  kind-t v ne = ap (λ (w : List Kind). getD w v merged) (same .kinds) ∙ element-kind-other p survivors size g v ne
-
-  kind-p : kind t p ≡ element
-  kind-p = ap (λ (w : List Kind). getD w p merged) (same .kinds) ∙ element-kind p survivors size g (ready .sized) (ready .inside)
-
-  elements-t : (v : ℕ) → v ≢ p → elementsOf t v ≡ elementsOf g v
-  elements-t v ne = ap (λ (w : List (List ℕ)). getD w v []) (same .elements) ∙ element-elements-other p survivors size g v ne
-
-  elements-p : elementsOf t p ≡ []
-  elements-p = ap (λ (w : List (List ℕ)). getD w p []) (same .elements) ∙ element-elements p survivors size g (ready .sized) (ready .inside)
-
-  variables-t : (v : ℕ) → v ≢ p → variablesOf t v ≡ variablesOf g v
-  variables-t v ne = ap (λ (w : List (List ℕ)). getD w v []) (same .variables) ∙ element-variables-other p survivors size g v ne
-
-  variables-p : variablesOf t p ≡ survivors
-  variables-p = ap (λ (w : List (List ℕ)). getD w p []) (same .variables) ∙ element-variables p survivors size g (ready .sized) (ready .inside)
-
-  degree-p : degree t p ≡ size
-  degree-p = placed-other left size p survivors start (not-kept p (hasWeight g) new (ready .outside)) ∙ element-degree p survivors size g (ready .sized) (ready .inside)
-
-  no-variable : isVariable (kind t p) ≡ false
-  no-variable = ap isVariable kind-p
-
-  var-apart : (v : ℕ) → isVariable (kind t v) ≡ true → v ≢ p
-  var-apart v a e = clash (isVariable (kind t v)) a (ap (λ (x : ℕ). isVariable (kind t x)) e ∙ no-variable)
+  row : Became g t p survivors size
+  row = became n g p survivors left size d qs (ready .sized) (ready .inside) (not-kept p (hasWeight g) new (ready .outside))
 
   -- ---- the fields
 
@@ -193,10 +161,10 @@ module _ (n : ℕ) (l s : List ℤ) (g : Graph) (p : ℕ) (new : List ℕ) (cnt 
   want-at : (v : ℕ) → v < n → (v ≡ p) ⊎ (v ≢ p) → rd n WANT s1 v ≡ cond (isVariable (kind t v) && true) (weight t v) 0
   want-at v hv (inl e) =
       subst⁻¹ (λ (x : ℕ). rd n WANT s1 x ≡ cond (isVariable (kind t x) && true) (weight t x) 0) e
-      (want-p ∙ sym (ap (λ (b : Bool). cond (b && true) (weight t p) 0) no-variable))
+      (want-p ∙ sym (ap (λ (b : Bool). cond (b && true) (weight t p) 0) (no-variable row)))
   want-at v hv (inr ne) =
-      want-one v hv ne ∙ go (isVariable (kind g v)) ∙ sym (ap (λ (k : Kind). cond (isVariable k && true) (weight g v) 0) (kind-t v ne))
-      ∙ sym (ap (λ (w : ℕ). cond (isVariable (kind t v) && true) w 0) (weight-t v))
+      want-one v hv ne ∙ go (isVariable (kind g v)) ∙ sym (ap (λ (k : Kind). cond (isVariable k && true) (weight g v) 0) (row .kinds v ne))
+      ∙ sym (ap (λ (w : ℕ). cond (isVariable (kind t v) && true) w 0) (row .weights v))
     where
       go : (b : Bool) → cond b (weight g v) 0 ≡ cond (b && true) (weight g v) 0
       go true = refl
@@ -232,11 +200,11 @@ module _ (n : ℕ) (l s : List ℤ) (g : Graph) (p : ℕ) (new : List ℕ) (cnt 
 
   list-p : listOf t p ≡ survivors
   unfolding listOf
-  list-p = rw (weight-t p, parent-t p, ready .heavy, ready .orphan, elements-p) variables-p
+  list-p = rw (row .weights p, row .parents p, ready .heavy, ready .orphan, row .own-elements) (row .own-variables)
 
   list-t : (v : ℕ) → v ≢ p → listOf g v ≡ listOf t v
   unfolding listOf
-  list-t v ne = rw (weight-t v, parent-t v, elements-t v ne, variables-t v ne)
+  list-t v ne = rw (row .weights v, row .parents v, row .elements v ne, row .variables v ne)
 
   list-at : (v : ℕ) → (v ≡ p) ⊎ (v ≢ p) → upd X p (keep (λ v. ltb 0 (rd n WANT s1 v)) (X p)) v ≡ listOf t v
   list-at v (inl e) =
@@ -255,30 +223,30 @@ module _ (n : ℕ) (l s : List ℤ) (g : Graph) (p : ℕ) (new : List ℕ) (cnt 
 
   degree-at : (v : ℕ) → v < n → (v ≡ p) ⊎ (v ≢ p) → rd n DEGREE s2 v ≡ degree t v
   degree-at v hv (inl e) =
-      subst⁻¹ (λ (x : ℕ). rd n DEGREE s2 x ≡ degree t x) e (finished-degree n s1 p size (kept .count) (half .room) (ready .inside) ∙ sym degree-p)
+      subst⁻¹ (λ (x : ℕ). rd n DEGREE s2 x ≡ degree t x) e (finished-degree n s1 p size (kept .count) (half .room) (ready .inside) ∙ sym (row .own-degree))
   degree-at v hv (inr ne) = finished-other n s1 p size (kept .count) DEGREE v ne ∙ half .degrees v hv ne
 
   parent-at : (v : ℕ) → v < n → rd n LEN s2 v ≡ 0 → (v ≡ p) ⊎ (v ≢ p) → parent n s2 v ≡ state.parent t v
   parent-at v hv z (inl e) =
       let c : kept .count ≤ 0 = omega (arith, finished-length n s1 p size (kept .count) (half .room) (ready .inside), ap (rd n LEN s2) e) in
       subst⁻¹ (λ (x : ℕ). parent n s2 x ≡ state.parent t x) e
-      (finished-orphan n s1 p size (kept .count) (half .room) (ready .inside) c ∙ sym (no-parent (state.parent g p) (ready .orphan)) ∙ sym (parent-t p))
+      (finished-orphan n s1 p size (kept .count) (half .room) (ready .inside) c ∙ sym (no-parent (state.parent g p) (ready .orphan)) ∙ sym (row .parents p))
   parent-at v hv z (inr ne) =
       finished-parent-other n s1 p size (kept .count) v ne ∙ half .parents v
       ∙ h .parents v hv (sym (half .fields LEN v refl refl refl refl refl) ∙ sym (finished-other n s1 p size (kept .count) LEN v ne) ∙ z)
-      ∙ sym (parent-t v)
+      ∙ sym (row .parents v)
 
   -- THE refinement: the memory holds the definition's graph after step 6
   pub placed-rest : Rest n (kept .lists) s2 t cnt base lim
   placed-rest =
       record {
         space = space3;
-        weights = λ v hv. finished-field n s1 p size (kept .count) NV v refl refl refl refl refl ∙ half .fields NV v refl refl refl refl refl ∙ h .weights v hv ∙ sym (weight-t v);
+        weights = λ v hv. finished-field n s1 p size (kept .count) NV v refl refl refl refl refl ∙ half .fields NV v refl refl refl refl refl ∙ h .weights v hv ∙ sym (row .weights v);
         wants = λ v hv. finished-field n s1 p size (kept .count) WANT v refl refl refl refl refl ∙ want-at v hv (same? v p);
         elens = λ v a.
-            let ne = var-apart v a in
-            finished-other n s1 p size (kept .count) ELEN v ne ∙ half .fields ELEN v refl refl refl refl refl ∙ h .elens v (sym (ap isVariable (kind-t v ne)) ∙ a)
-            ∙ ap length (sym (elements-t v ne));
+            let ne = var-apart row v a in
+            finished-other n s1 p size (kept .count) ELEN v ne ∙ half .fields ELEN v refl refl refl refl refl ∙ h .elens v (sym (ap isVariable (row .kinds v ne)) ∙ a)
+            ∙ ap length (sym (row .elements v ne));
         degrees = λ v hv. degree-at v hv (same? v p);
         parents = λ v hv z. parent-at v hv z (same? v p);
       }
@@ -330,33 +298,7 @@ module _ (n : ℕ) (l s : List ℤ) (g : Graph) (p : ℕ) (new : List ℕ) (cnt 
   )
 
   pub placed-flagged : (flag : ℕ) → 1 < flag → Flagged n s g flag → Flagged n s2 t flag
-  placed-flagged flag two f =
-      record {
-        below = λ x hx. below x hx (same? x p);
-        variable = λ x hx a.
-            let ne = var-apart x a in
-            omega (arith, mark-other x ne, f .variable x hx (sym (ap isVariable (kind-t x ne)) ∙ a));
-        element = λ x hx a b c. there x hx a b c (same? x p);
-        absorbed = λ x hx a b. gone x hx a b (same? x p);
-      }
-    where
-      below : (x : ℕ) → x < n → (x ≡ p) ⊎ (x ≢ p) → rd n W s2 x < flag
-      below x hx (inl e) = omega (arith, ap (rd n W s2) e, mark-p .0)
-      below x hx (inr ne) = omega (arith, mark-other x ne, f .below x hx)
-
-      there : (x : ℕ) → x < n → isElement (kind t x) ≡ true → live t x ≡ true → 0 < length (variablesOf t x) → (x ≡ p) ⊎ (x ≢ p) → 1 ≤ rd n W s2 x
-      there x hx a b c (inl e) =
-          omega (arith, ap (rd n W s2) e, mark-p .1 (omega (arith, ap (λ (y : ℕ). length (variablesOf t y)) e, ap length variables-p)))
-      there x hx a b c (inr ne) =
-          omega (
-            arith,
-            mark-other x ne,
-            f .element x hx (sym (ap isElement (kind-t x ne)) ∙ a) (sym (ap isNone (parent-t x)) ∙ b) (omega (arith, ap length (variables-t x ne))),
-          )
-
-      gone : (x : ℕ) → x < n → isElement (kind t x) ≡ true → live t x ≡ false → (x ≡ p) ⊎ (x ≢ p) → rd n W s2 x ≡ 0
-      gone x hx a b (inl e) = clash (live t x) (ap (live t) e ∙ ap isNone (parent-t p) ∙ ready .orphan) b
-      gone x hx a b (inr ne) = mark-other x ne ∙ f .absorbed x hx (sym (ap isElement (kind-t x ne)) ∙ a) (sym (ap isNone (parent-t x)) ∙ b)
+  placed-flagged flag two f = flagged-by row n s s2 flag two (ready .orphan) mark-other (mark-p .0) (mark-p .1) f
 
   -- ---- what else the memory keeps
 
@@ -374,7 +316,7 @@ module _ (n : ℕ) (l s : List ℤ) (g : Graph) (p : ℕ) (new : List ℕ) (cnt 
   placed-size small =
       finished-size n s1 p size (kept .count) (half .room) (ready .inside)
       ∙ ap (λ (x : ℕ). plus x size) (half .fields NV p refl refl refl refl refl ∙ h .weights p (ready .inside))
-      ∙ plus-sum (weight g p) size small ∙ omega (arith, weight-t p, degree-p)
+      ∙ plus-sum (weight g p) size small ∙ omega (arith, row .weights p, row .own-degree)
 
   -- the list space is as long as it was
   pub placed-long : length (kept .lists) ≡ length l
@@ -386,19 +328,5 @@ module _ (n : ℕ) (l s : List ℤ) (g : Graph) (p : ℕ) (new : List ℕ) (cnt 
 
   -- ---- the log of merges, where the pivot was not merged
 
-  merged-t : isMerged (kind g p) ≡ false → (v : ℕ) → isMerged (kind t v) ≡ isMerged (kind g v)
-  merged-t a v = go (same? v p)
-    where
-      go : (v ≡ p) ⊎ (v ≢ p) → isMerged (kind t v) ≡ isMerged (kind g v)
-      go (inl e) = subst⁻¹ (λ (x : ℕ). isMerged (kind t x) ≡ isMerged (kind g x)) e (ap isMerged kind-p ∙ sym a)
-      go (inr ne) = ap isMerged (kind-t v ne)
-
   pub placed-logged : isMerged (kind g p) ≡ false → (ms : List ℕ) → Logged n s g ms → Logged n s2 t ms
-  placed-logged a ms k =
-      record {
-        log = entries-same (rd n MERGES s) (rd n MERGES s2) 0 0 (length ms) (λ i b. placed-fields MERGES (0 + i) refl refl refl refl refl refl refl refl refl) ∙ k .log;
-        once = k .once;
-        inside = λ v i. (k .inside v i .0, merged-t a v ∙ k .inside v i .1);
-        all = λ v hv b. k .all v hv (sym (merged-t a v) ∙ b);
-        later = λ i v b e. ⊎-elim (λ x. inl (merged-t a v ∙ x)) (λ x. inr x) (k .later i v b (sym (parent-t (getD ms i 0)) ∙ e));
-      }
+  placed-logged a ms k = logged-by row n s s2 a (λ i. placed-fields MERGES i refl refl refl refl refl refl refl refl refl) ms k
