@@ -1,2 +1,7 @@
 -- The modules of `trimming` that belong to no one function.
 pub mod Steps
+pub mod Filtering
+pub mod Freeing
+pub mod Dropping
+pub mod Wanting
+pub mod Rounding
