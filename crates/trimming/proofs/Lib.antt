@@ -5,3 +5,4 @@ pub mod Freeing
 pub mod Dropping
 pub mod Wanting
 pub mod Rounding
+pub mod Sifting
