@@ -6,3 +6,5 @@ pub mod Dropping
 pub mod Wanting
 pub mod Rounding
 pub mod Sifting
+pub mod Relisting
+pub mod Massing
