@@ -8,3 +8,4 @@ pub mod Rounding
 pub mod Sifting
 pub mod Relisting
 pub mod Massing
+pub mod Refinement

@@ -5,17 +5,18 @@ use native.Mathlib.Omega.{arith}
 use mathlib.Core.Bool.{false, true}
 use mathlib.Core.List.{List, []}
 use mathlib.Core.Logic.{_≢_, _⊎_, inl, inr, ⊎-elim}
-use mathlib.Core.Path.{_∙_, _≡_, refl, sym}
+use mathlib.Core.Path.{_∙_, _≡_, ap, refl, sym}
 use borrow.Author.Tests.{lt-ltb}
 use lib.Dec.{eqb, ltb}
 use lib.IntN.{ℤ}
 use lib.ListN.{length}
 use Rattle.plain.proofs.Entries.{entries-none}
+use Rattle.plain.proofs.Logic.{clash}
 use Rattle.plain.specs.Lists.{member}
 use Rattle.plain.specs.Turns.{upd}
 use Rattle.cells.proofs.Laws.{mem, parent-hang-cell, parent-up-field, rd-hang-cell, rd-hang-field, rd-up-cell, rd-up-field, room-yes}
 use Rattle.cells.proofs.Slices.{plus-sum}
-use Rattle.cells.specs.Layout.{LEN, MERGES, NV, PE}
+use Rattle.cells.specs.Layout.{LEN, MERGES, NV, PE, W}
 use Rattle.cells.specs.Links.{hang, named, parent}
 use Rattle.cells.specs.View.{at, plus, rd, roomy, up}
 use Rattle.packed.proofs.Spaces.{space-field, space-rewritten}
@@ -37,6 +38,8 @@ pub record Massed (n me i made : ℕ) (s : List ℤ) (gone : List ℕ) (s′ : L
   pub others : (f x : ℕ) → eqb 13 f ≡ false → eqb 14 f ≡ false → i ≢ x → member x gone ≡ false → rd n f s′ x ≡ rd n f s x
   pub fields : (f x : ℕ) → eqb 0 f ≡ false → eqb 1 f ≡ false → eqb 5 f ≡ false → eqb 13 f ≡ false → eqb 14 f ≡ false → rd n f s′ x ≡ rd n f s x
   pub kin : (x : ℕ) → i ≢ x → member x gone ≡ false → parent n s′ x ≡ parent n s x
+  -- the elements that were taken up
+  pub taken : (x : ℕ) → member x gone ≡ true → (rd n W s′ x ≡ 0) × (rd n LEN s′ x ≡ 0) × (parent n s′ x ≡ named n me)
 
 module _ (n me flag : ℕ) (X : ℕ → List ℕ) (l s : List ℤ) (cnt base lim i : ℕ) (gone es vs : List ℕ) (m : Keeping) (h : Row n me flag X l s cnt base lim i gone es vs m)
     (hi : i < n) (hm : me < n) (differ : me ≢ i) (apart : member i gone ≡ false) (made : ℕ) where
@@ -117,6 +120,19 @@ module _ (n me flag : ℕ) (X : ℕ → List ℕ) (l s : List ℤ) (cnt base lim
   weight-others : (x : ℕ) → me ≢ x → i ≢ x → rd n NV e x ≡ rd n NV s₁ x
   weight-others x y z = simp mem
 
+  mark-up : (x : ℕ) → rd n W e x ≡ rd n W s₁ x
+  mark-up x = simp mem
+
+  len-up : (x : ℕ) → i ≢ x → rd n LEN e x ≡ rd n LEN s₁ x
+  len-up x z = simp mem
+
+  link-up : (x : ℕ) → i ≢ x → parent n e x ≡ parent n s₁ x
+  link-up x z = simp mem
+
+  -- i is not taken up
+  other : (x : ℕ) → member x gone ≡ true → i ≢ x
+  other x u y = clash (member i gone) (ap (λ (z : ℕ). member z gone) y ∙ u) apart
+
   -- THE fields of a row that goes
   pub row-gone : Massed n me i made s gone (buried n me i made (tookWeight n me i s₁))
   unfolding buried tookWeight
@@ -139,4 +155,5 @@ module _ (n me flag : ℕ) (X : ℕ → List ℕ) (l s : List ℤ) (cnt base lim
         kin = λ x z y.
             parent-up-field n MERGES d made i x refl ∙ parent-hang-cell n c i (named n me) x z ∙ parent-up-field n LEN b i 0 x refl ∙ parent-up-field n NV a i 0 x refl
             ∙ parent-up-field n NV s₁ me w x refl ∙ h .freed .kin x y;
+        taken = λ x u. (mark-up x ∙ h .freed .marks x u, len-up x (other x u) ∙ h .freed .lens x u, link-up x (other x u) ∙ h .freed .links x u);
       }

@@ -11,12 +11,13 @@ use borrow.Author.Tests.{le-ltb, lt-ltb}
 use lib.Dec.{eqb, ltb}
 use lib.IntN.{ℤ}
 use lib.ListN.{length}
+use Rattle.plain.proofs.Logic.{clash}
 use Rattle.plain.specs.Lists.{member, rotate}
 use Rattle.plain.specs.Turns.{entries, upd}
 use Rattle.cells.proofs.Laws.{mem, parent-up-field, rd-up-cell, rd-up-field, rd-up-hit, room-yes, roomy-up}
 use Rattle.cells.proofs.Slices.{plus-sum, split}
-use Rattle.cells.specs.Layout.{DEGREE, ELEN, HHEAD, HKEY, HNEXT, LEN, PE}
-use Rattle.cells.specs.Links.{parent}
+use Rattle.cells.specs.Layout.{DEGREE, ELEN, HHEAD, HKEY, HNEXT, LEN, PE, W}
+use Rattle.cells.specs.Links.{named, parent}
 use Rattle.cells.specs.View.{at, plus, rd, roomy, up}
 use Rattle.packed.proofs.Spaces.{space-field, space-rewritten}
 use Rattle.packed.specs.Places.{Space}
@@ -70,6 +71,8 @@ pub record Stayed (n me flag i k : ℕ) (s : List ℤ) (gone es vs : List ℕ) (
   pub fields : (f x : ℕ) → eqb 0 f ≡ false → eqb 1 f ≡ false → eqb 5 f ≡ false → eqb 3 f ≡ false → eqb 4 f ≡ false → eqb 9 f ≡ false → eqb 10 f ≡ false → eqb 11 f ≡ false
       → rd n f s′ x ≡ rd n f s x
   pub kin : (x : ℕ) → member x gone ≡ false → parent n s′ x ≡ parent n s x
+  -- the elements that were taken up
+  pub taken : (x : ℕ) → member x gone ≡ true → (rd n W s′ x ≡ 0) × (rd n LEN s′ x ≡ 0) × (parent n s′ x ≡ named n me)
 
 module _ (n me flag : ℕ) (X : ℕ → List ℕ) (l s : List ℤ) (cnt base lim i : ℕ) (gone es vs : List ℕ) (m : Keeping) (h : Row n me flag X l s cnt base lim i gone es vs m)
     (hi : i < n) (apart : member i gone ≡ false) (narrow : length l < 2 ^ 62)
@@ -192,6 +195,19 @@ module _ (n me flag : ℕ) (X : ℕ → List ℕ) (l s : List ℤ) (cnt base lim
   degree-is : sizes n flag s es vs < 2 ^ 63 → rd n DEGREE e₃ i ≡ min (rd n DEGREE s i) (sizes n flag s es vs)
   degree-is z = degree-up ∙ lowered-here n i (m .kept .deg) b room-b inside ∙ rw (degree-old, h .deg z)
 
+  mark-up : (x : ℕ) → rd n W e₃ x ≡ rd n W s₁ x
+  mark-up x = simp (mem, lowered-field)
+
+  len-up : (x : ℕ) → i ≢ x → rd n LEN e₃ x ≡ rd n LEN s₁ x
+  len-up x z = simp (mem, lowered-field)
+
+  link-up : (x : ℕ) → parent n e₃ x ≡ parent n s₁ x
+  link-up x = simp (mem, lowered-kin)
+
+  -- i is not taken up
+  other : (x : ℕ) → member x gone ≡ true → i ≢ x
+  other x u y = clash (member i gone) (ap (λ (z : ℕ). member z gone) y ∙ u) apart
+
   -- THE fields of a row that stays
   pub row-stayed : Stayed n me flag i k s gone es vs (relisted n i (m .kept) s₁)
   unfolding relisted sized keyed
@@ -212,4 +228,5 @@ module _ (n me flag : ℕ) (X : ℕ → List ℕ) (l s : List ℤ) (cnt base lim
         kin = λ x w.
             parent-up-field n HKEY e₂ i k x refl ∙ parent-up-field n HHEAD e₁ k i x refl ∙ parent-up-field n HNEXT d i (rd n HHEAD d k) x refl ∙ lowered-kin n i (m .kept .deg) b x
             ∙ parent-up-field n LEN a i (plus (m .kept .cnt) 1) x refl ∙ parent-up-field n ELEN s₁ i (plus (m .kept .elements) 1) x refl ∙ h .freed .kin x w;
+        taken = λ x u. (mark-up x ∙ h .freed .marks x u, len-up x (other x u) ∙ h .freed .lens x u, link-up x ∙ h .freed .links x u);
       }
