@@ -21,7 +21,7 @@ use Rattle.trimming.specs.Model.{Keeping, Trimming, keptAll, keyOf, mass
 use Rattle.trimming.proofs.Dropping.{goes}
 use Rattle.trimming.proofs.Freeing.{without}
 use Rattle.trimming.proofs.Massing.{Massed, row-goes, row-gone}
-use Rattle.trimming.proofs.Relisting.{Stayed, row-stayed, row-stays}
+use Rattle.trimming.proofs.Relisting.{Stayed, long-is, row-stayed, row-stays}
 use Rattle.trimming.proofs.Sifting.{Row, goneE, keptE, keptV, numbers, row-kept, sizes}
 
 module _ (n me flag : ℕ) (aggressive : Bool) (X : ℕ → List ℕ) (l s : List ℤ) (cnt base lim : ℕ) (g : Space n X l s cnt base lim) (narrow : length l < 2 ^ 62)
@@ -60,6 +60,7 @@ module _ (n me flag : ℕ) (aggressive : Bool) (X : ℕ → List ℕ) (l s : Lis
         → Space n (upd (without gone X) i (me ∷ (rotate es ++ rotate vs))) (r .lists) (r .mem) cnt base lim
         × Stayed n me flag i (keyOf n (numbers es vs)) s gone es vs (r .mem)
         × (r .merged ≡ t)
+        × (length (r .lists) ≡ length l)
     unfolding updated settled
     refined-stays some light =
         let own′ : length es + length vs < rd n LEN s i = omega (arith, whole) in
@@ -67,15 +68,17 @@ module _ (n me flag : ℕ) (aggressive : Bool) (X : ℕ → List ℕ) (l s : Lis
           row-stays n me flag X l s cnt base lim i gone es vs m row hi away narrow place own′ some,
           subst (λ (y : ℕ). Stayed n me flag i (keyOf n y) s gone es vs (relisted n i (m .kept) (m .mem))) (row .sum light) (row-stayed n me flag X l s cnt base lim i gone es vs m row hi away narrow place own′ some),
           refl,
+          long-is n me flag X l s cnt base lim i gone es vs m row hi away narrow place own′ some,
         )
 
     -- THE row that keeps nothing: it is a child of the pivot, which has its weight
     pub refined-goes : length es + length vs ≤ 0
-        → Space n (upd (without gone X) i []) (r .lists) (r .mem) cnt base lim × Massed n me i (t .made) s gone (r .mem) × (r .merged ≡ massed n i s t)
+        → Space n (upd (without gone X) i []) (r .lists) (r .mem) cnt base lim × Massed n me i (t .made) s gone (r .mem) × (r .merged ≡ massed n i s t) × (length (r .lists) ≡ length l)
     unfolding updated settled massed
     refined-goes none =
         rw (le-ltb 0 (m .kept .cnt) (omega (arith, row .count))) (
           row-goes n me flag X l s cnt base lim i gone es vs m row hi hm differ away (t .made),
           row-gone n me flag X l s cnt base lim i gone es vs m row hi hm differ away (t .made),
           rw (row .freed .fields NV i refl refl refl),
+          row .long,
         )

@@ -109,7 +109,7 @@ module _ (n me flag : ℕ) (X : ℕ → List ℕ) (l s : List ℤ) (cnt base lim
       rw turned-is
       (turned-rest me (rd n PE s i) (length es) (length vs) (m .lists) some fits q (⊎-elim (λ z. inl z) (λ z. inr (omega arith)) o) ∙ h .rest q o)
 
-  long-is : length l′ ≡ length l
+  pub long-is : length l′ ≡ length l
   long-is = rw turned-is (turned-long me (rd n PE s i) (length es) (length vs) (m .lists) some fits) ∙ h .long
 
   abbrev a : List ℤ
