@@ -9,3 +9,4 @@ pub mod Sifting
 pub mod Relisting
 pub mod Massing
 pub mod Refinement
+pub mod Rowwise
