@@ -25,7 +25,9 @@ same-length c = search needs
 
 -- src/lib.rt:53:1
 returns : tie.Need-returns
-returns c = search (needs, absorb-step)
+-- the calls by name, so that a wrong store is refused at once
+returns c =
+    (absorb-step _ _ _ _ _ _ _ (c .before .before .before .before .before .before .before .up .ensures .0) (c .before .before .before .before .up2 .ensures .0) (c .before .put-parent .ensures .0), c .before .put-parent .ensures .1)
 
 pub absorb-spec : {M : Type 1} → statement M
 absorb-spec =
