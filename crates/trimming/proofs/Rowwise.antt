@@ -1,9 +1,9 @@
 -- All rows of the new element, on plain data: each has the list of what it keeps by the marks and weights before the first, and every element that one of them
 -- took up is dead.
 -- Assumes nothing.
-use Prim.Native.Nat.{_+_, _-_, _<_, _^_, _≤_, suc, ℕ}
+use Prim.Native.Nat.{_+_, _-_, _<_, _^_, _≤_, min, suc, ℕ}
 use native.Mathlib.Omega.{arith}
-use mathlib.Core.Bool.{Bool, false, true, cond, not, _&&_, _||_}
+use mathlib.Core.Bool.{Bool, false, true, cond, not, _&&_, _||_, false≢true}
 use mathlib.Core.List.{List, [], _++_, _∷_, append-nil, flatMap}
 use mathlib.Core.Logic.{_≢_, _⊎_, inl, inr, ⊎-elim}
 use mathlib.Core.Path.{_∙_, _≡_, ap, refl, subst, subst⁻¹, sym}
@@ -15,12 +15,13 @@ use Rattle.plain.proofs.Entries.{entries-append, entries-at, entries-none, entr
 use Rattle.plain.proofs.Folds.{flatMap-append}
 use Rattle.plain.proofs.Logic.{and-right, clash, either}
 use Rattle.plain.proofs.Members.{append-either, keep-same, kept-passes, kept-was, member-append, member-either, member-first, member-flatMap, member-here, member-keep, member-left, member-nil, member-right, no-member, not-in, not-kept}
+use Rattle.plain.proofs.Sums.{total-members}
 use Rattle.plain.proofs.Turns.{times-keeps}
 use Rattle.plain.specs.Lists.{keep, member, rotate}
 use Rattle.plain.specs.Members.{In}
 use Rattle.plain.specs.Turns.{entries, upd}
 use Rattle.cells.proofs.Slices.{same?, split}
-use Rattle.cells.specs.Layout.{ELEN, LEN, PE, W, WANT}
+use Rattle.cells.specs.Layout.{DEGREE, ELEN, LEN, PE, W, WANT}
 use Rattle.cells.specs.View.{at, rd}
 use Rattle.packed.proofs.Spaces.{space-renamed}
 use Rattle.packed.specs.Places.{Space}
@@ -30,7 +31,7 @@ use Rattle.trimming.proofs.Freeing.{without}
 use Rattle.trimming.proofs.Massing.{Massed}
 use Rattle.trimming.proofs.Refinement.{refined-goes, refined-stays}
 use Rattle.trimming.proofs.Relisting.{Stayed}
-use Rattle.trimming.proofs.Sifting.{goneE, keptE, keptV, numbers}
+use Rattle.trimming.proofs.Sifting.{goneE, keptE, keptV, numbers, sizes}
 
 -- a mark that was cleared was one of an element that goes, so who stays is known from the marks before
 stays-cleared : (aggressive : Bool) (flag w : ℕ) (b : Bool) → (b ≡ true → goes aggressive flag w ≡ true) → stays aggressive flag (cond b 0 w) ≡ stays aggressive flag w
@@ -41,19 +42,29 @@ stays-cleared aggressive flag w true h = sym (go (ltb 0 w) (swallows aggressive 
     go true v e = rw e
     go false v e = refl
 
+-- no element does both
+one-way : (aggressive : Bool) (flag w : ℕ) → stays aggressive flag w ≡ true → goes aggressive flag w ≡ true → ⊥
+one-way aggressive flag w a b =
+    go (swallows aggressive flag w) (and-right (ltb 0 w) (not (swallows aggressive flag w)) a) (and-right (ltb 0 w) (swallows aggressive flag w) b)
+  where
+    go : (v : Bool) → not v ≡ true → v ≡ true → ⊥
+    go true c d = false≢true c
+    go false c d = false≢true d
+
 -- the list of a row that keeps es and vs
 abbrev pub newList : ℕ → List ℕ → List ℕ → List ℕ
 newList me es vs = cond (ltb 0 (length es + length vs)) (me ∷ (rotate es ++ rotate vs)) []
 
 -- fields that are no table
 abbrev pub Place : ℕ → Type 0
-Place k = (k ≡ PE) ⊎ ((k ≡ LEN) ⊎ ((k ≡ ELEN) ⊎ (k ≡ W)))
+Place k = (k ≡ PE) ⊎ ((k ≡ LEN) ⊎ ((k ≡ ELEN) ⊎ ((k ≡ W) ⊎ (k ≡ DEGREE))))
 
 no-table : (k : ℕ) → Place k → (eqb 9 k ≡ false) × (eqb 13 k ≡ false) × (eqb 14 k ≡ false)
 no-table k (inl e) = subst⁻¹ (λ (y : ℕ). (eqb 9 y ≡ false) × (eqb 13 y ≡ false) × (eqb 14 y ≡ false)) e (refl, refl, refl)
 no-table k (inr (inl e)) = subst⁻¹ (λ (y : ℕ). (eqb 9 y ≡ false) × (eqb 13 y ≡ false) × (eqb 14 y ≡ false)) e (refl, refl, refl)
 no-table k (inr (inr (inl e))) = subst⁻¹ (λ (y : ℕ). (eqb 9 y ≡ false) × (eqb 13 y ≡ false) × (eqb 14 y ≡ false)) e (refl, refl, refl)
-no-table k (inr (inr (inr e))) = subst⁻¹ (λ (y : ℕ). (eqb 9 y ≡ false) × (eqb 13 y ≡ false) × (eqb 14 y ≡ false)) e (refl, refl, refl)
+no-table k (inr (inr (inr (inl e)))) = subst⁻¹ (λ (y : ℕ). (eqb 9 y ≡ false) × (eqb 13 y ≡ false) × (eqb 14 y ≡ false)) e (refl, refl, refl)
+no-table k (inr (inr (inr (inr e)))) = subst⁻¹ (λ (y : ℕ). (eqb 9 y ≡ false) × (eqb 13 y ≡ false) × (eqb 14 y ≡ false)) e (refl, refl, refl)
 
 -- what a row of the new element is asked
 pub record Fine (n me flag : ℕ) (aggressive : Bool) (X : ℕ → List ℕ) (s : List ℤ) (i : ℕ) (E U : List ℕ) : Type 0 where
@@ -80,6 +91,13 @@ module _ (n me flag : ℕ) (aggressive : Bool) (X : ℕ → List ℕ) (l s : Lis
   abbrev list : ℕ → List ℕ
   list i = newList me (keptE n flag aggressive s (E i)) (keptV n s (U i))
 
+  -- how many numbers row i keeps, and the sum of their sizes and weights
+  abbrev kept : ℕ → ℕ
+  kept i = length (keptE n flag aggressive s (E i)) + length (keptV n s (U i))
+
+  abbrev size : ℕ → ℕ
+  size i = sizes n flag s (keptE n flag aggressive s (E i)) (keptV n s (U i))
+
   -- the lists when the rows js are done
   abbrev Xof : List ℕ → ℕ → List ℕ
   Xof js j = cond (member j js) (list j) (cond (member j (Gone js)) [] (X j))
@@ -94,8 +112,12 @@ module _ (n me flag : ℕ) (aggressive : Bool) (X : ℕ → List ℕ) (l s : Lis
       pub wants : (v : ℕ) → rd n WANT (m .mem) v ≡ rd n WANT s v
       pub marks : (e : ℕ) → member e (done len) ≡ false → rd n W (m .mem) e ≡ cond (member e (Gone (done t))) 0 (rd n W s e)
       pub elens : (x : ℕ) → In x (done len) → member x (done t) ≡ false → rd n ELEN (m .mem) x ≡ rd n ELEN s x
+      pub degrees : (x : ℕ) → In x (done len) → member x (done t) ≡ false → rd n DEGREE (m .mem) x ≡ rd n DEGREE s x
+      -- of a row that stays: its elements, and its degree
+      pub counts : (x : ℕ) → member x (done t) ≡ true → 0 < kept x → rd n ELEN (m .mem) x ≡ suc (length (keptE n flag aggressive s (E x)))
+      pub lowered : (x : ℕ) → member x (done t) ≡ true → 0 < kept x → size x < 2 ^ 63 → rd n DEGREE (m .mem) x ≡ min (rd n DEGREE s x) (size x)
       pub pe : rd n PE (m .mem) me ≡ rd n PE s me
-      pub size : rd n LEN (m .mem) me ≡ rd n LEN s me
+      pub length-of : rd n LEN (m .mem) me ≡ rd n LEN s me
 
     abbrev step : ℕ → Trimming → Trimming
     step j = updatedAt n me flag aggressive (from + j)
@@ -138,7 +160,7 @@ module _ (n me flag : ℕ) (aggressive : Bool) (X : ℕ → List ℕ) (l s : Lis
 
       same-list : entries (at (m .lists)) from len ≡ entries (at l) from len
       same-list =
-          ap (λ (y : ℕ). entries (at (m .lists)) y len) (sym (h .pe)) ∙ ap (entries (at (m .lists)) (rd n PE (m .mem) me)) (sym (h .size)) ∙ h .space .lists .lists me
+          ap (λ (y : ℕ). entries (at (m .lists)) y len) (sym (h .pe)) ∙ ap (entries (at (m .lists)) (rd n PE (m .mem) me)) (sym (h .length-of)) ∙ h .space .lists .lists me
           ∙ rw (me-not, safe t me (omega arith) (inl refl)) (sym (g .lists .lists me))
 
       here : at (m .lists) (from + t) ≡ i
@@ -224,8 +246,9 @@ module _ (n me flag : ℕ) (aggressive : Bool) (X : ℕ → List ℕ) (l s : Lis
       ended : Space n (upd (without gone (Xof (done t))) i (list i)) (r .lists) (r .mem) cnt base lim → length (r .lists) ≡ length (m .lists)
           → ((v : ℕ) → rd n WANT (r .mem) v ≡ rd n WANT (m .mem) v) → ((x : ℕ) → member x gone ≡ true → rd n W (r .mem) x ≡ 0)
           → ((k x : ℕ) → Place k → i ≢ x → member x gone ≡ false → rd n k (r .mem) x ≡ rd n k (m .mem) x)
+          → (0 < kept i → rd n ELEN (r .mem) i ≡ suc (length es)) → (0 < kept i → size i < 2 ^ 63 → rd n DEGREE (r .mem) i ≡ min (rd n DEGREE s i) (size i))
           → Along (suc t) r
-      ended sp lo wa ta ot =
+      ended sp lo wa ta ot cn dg =
           record {
             space = space-renamed n (upd (without gone (Xof (done t))) i (list i)) (r .lists) (r .mem) cnt base lim sp (Xof (done (suc t))) (λ j. lists-are j (same? j i));
             long = lo ∙ h .long;
@@ -235,12 +258,23 @@ module _ (n me flag : ℕ) (aggressive : Bool) (X : ℕ → List ℕ) (l s : Lis
                 rw (all-gone e)
                 (either (rd n W (r .mem) e ≡ cond (member e (Gone (done t)) || member e (goneE n flag aggressive s (E i))) 0 (rd n W s e)) (member e gone)
                 (λ y. ta e y ∙ sym (cleared e k y))
-                (λ y. ot W e (inr (inr (inr refl))) d y ∙ h .marks e k ∙ uncleared e k y));
+                (λ y. ot W e (inr (inr (inr (inl refl)))) d y ∙ h .marks e k ∙ uncleared e k y));
             elens = λ x k y.
                 let d : x ≢ i = λ z. clash (member x (done (suc t))) (ap (λ (w : ℕ). member w (done (suc t))) z ∙ ap (member i) more ∙ member-right i (done t) (i ∷ []) (member-here i [])) y in
                 ot ELEN x (inr (inr (inl refl))) (λ z. d (sym z)) (row-safe x (inr k)) ∙ h .elens x k (sym (other-done x d) ∙ y);
+            degrees = λ x k y.
+                let d : x ≢ i = λ z. clash (member x (done (suc t))) (ap (λ (w : ℕ). member w (done (suc t))) z ∙ ap (member i) more ∙ member-right i (done t) (i ∷ []) (member-here i [])) y in
+                ot DEGREE x (inr (inr (inr (inr refl)))) (λ z. d (sym z)) (row-safe x (inr k)) ∙ h .degrees x k (sym (other-done x d) ∙ y);
+            counts = λ x k.
+                ⊎-elim (λ e. subst⁻¹ (λ (y : ℕ). 0 < kept y → rd n ELEN (r .mem) y ≡ suc (length (keptE n flag aggressive s (E y)))) e cn)
+                (λ d z. ot ELEN x (inr (inr (inl refl))) (λ y. d (sym y)) (row-safe x (inr (sooner (suc t) x b k))) ∙ h .counts x (sym (other-done x d) ∙ k) z)
+                (same? x i);
+            lowered = λ x k.
+                ⊎-elim (λ e. subst⁻¹ (λ (y : ℕ). 0 < kept y → size y < 2 ^ 63 → rd n DEGREE (r .mem) y ≡ min (rd n DEGREE s y) (size y)) e dg)
+                (λ d z y. ot DEGREE x (inr (inr (inr (inr refl)))) (λ w. d (sym w)) (row-safe x (inr (sooner (suc t) x b k))) ∙ h .lowered x (sym (other-done x d) ∙ k) z y)
+                (same? x i);
             pe = ot PE me (inl refl) (λ z. differ (sym z)) (row-safe me (inl refl)) ∙ h .pe;
-            size = ot LEN me (inr (inl refl)) (λ z. differ (sym z)) (row-safe me (inl refl)) ∙ h .size;
+            length-of = ot LEN me (inr (inl refl)) (λ z. differ (sym z)) (row-safe me (inl refl)) ∙ h .length-of;
           }
         where
           cleared : (e : ℕ) → member e (done len) ≡ false → member e gone ≡ true → cond (member e (Gone (done t)) || member e (goneE n flag aggressive s (E i))) 0 (rd n W s e) ≡ 0
@@ -260,6 +294,22 @@ module _ (n me flag : ℕ) (aggressive : Bool) (X : ℕ → List ℕ) (l s : Lis
       elen-now : rd n ELEN (m .mem) i ≡ length (E i)
       elen-now = h .elens i is-row (once t b) ∙ f .elen
 
+      -- the sizes and weights of what is kept are as before the first row
+      same-mark : (e : ℕ) → member e es ≡ true → rd n W (m .mem) e ≡ rd n W s e
+      same-mark e k =
+          let y : stays aggressive flag (rd n W s e) ≡ true = kept-passes e (λ x. stays aggressive flag (rd n W s x)) (E i) k in
+          let z : member e (Gone (done t)) ≡ false = not-in e (Gone (done t)) (λ u. one-way aggressive flag (rd n W s e) y (gone-goes t e u)) in
+          h .marks e (no-row e (kept-was e (λ x. stays aggressive flag (rd n W s x)) (E i) k)) ∙ rw z
+
+      same-size : sizes n flag (m .mem) (keptE n flag aggressive (m .mem) (E i)) (keptV n (m .mem) (U i)) ≡ size i
+      same-size =
+          rw (
+            same-es,
+            same-vs,
+            total-members (λ e. rd n W (m .mem) e - flag) (λ e. rd n W s e - flag) es (λ e k. ap (λ (y : ℕ). y - flag) (same-mark e k)),
+            total-members (rd n WANT (m .mem)) (rd n WANT s) vs (λ v k. h .wants v),
+          )
+
       stays-way : 0 < length es + length vs → Along (suc t) r
       stays-way some =
           let some′ : 0 < length (keptE n flag aggressive (m .mem) (E i)) + length (keptV n (m .mem) (U i)) = rw (same-es, same-vs) some in
@@ -269,6 +319,8 @@ module _ (n me flag : ℕ) (aggressive : Bool) (X : ℕ → List ℕ) (l s : Lis
           own some′ light′ in
           ended (subst (λ (y : List ℕ). Space n (upd (without gone (Xof (done t))) i y) (r .lists) (r .mem) cnt base lim) is (q .0)) (q .3)
           (λ v. q .1 .fields WANT v refl refl refl refl refl refl refl refl) (λ x y. q .1 .taken x y .0) (λ k x o d y. q .1 .others k x (no-table k o .0) d y)
+          (λ z. q .1 .elen ∙ ap (λ (y : List ℕ). suc (length y)) same-es)
+          (λ z y. q .1 .degree (rw same-size y) ∙ rw (same-size, h .degrees i is-row (once t b)))
 
       goes-way : length es + length vs ≤ 0 → Along (suc t) r
       goes-way nil =
@@ -278,6 +330,7 @@ module _ (n me flag : ℕ) (aggressive : Bool) (X : ℕ → List ℕ) (l s : Lis
           own nil′ in
           ended (subst (λ (y : List ℕ). Space n (upd (without gone (Xof (done t))) i y) (r .lists) (r .mem) cnt base lim) is (q .0)) (q .3)
           (λ v. q .1 .fields WANT v refl refl refl refl refl) (λ x y. q .1 .taken x y .0) (λ k x o d y. q .1 .others k x (no-table k o .1) (no-table k o .2) d y)
+          (λ z. absurd (omega arith)) (λ z. absurd (omega arith))
 
       turn : Along (suc t) (step t m)
       unfolding updatedAt
@@ -293,7 +346,10 @@ module _ (n me flag : ℕ) (aggressive : Bool) (X : ℕ → List ℕ) (l s : Lis
           marks = λ e k. rw (entries-none (at l) from, member-nil e);
           elens = λ x k y. refl;
           pe = refl;
-          size = refl;
+          degrees = λ x k y. refl;
+          counts = λ x k. absurd (clash (member x (done 0)) k (rw (entries-none (at l) from) (member-nil x)));
+          lowered = λ x k. absurd (clash (member x (done 0)) k (rw (entries-none (at l) from) (member-nil x)));
+          length-of = refl;
         }
 
     -- THE rows of the new element
