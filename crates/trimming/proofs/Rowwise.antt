@@ -21,7 +21,7 @@ use Rattle.plain.specs.Lists.{keep, member, rotate}
 use Rattle.plain.specs.Members.{In}
 use Rattle.plain.specs.Turns.{entries, upd}
 use Rattle.cells.proofs.Slices.{same?, split}
-use Rattle.cells.specs.Layout.{DEGREE, ELEN, LEN, PE, W, WANT}
+use Rattle.cells.specs.Layout.{DEGREE, ELEN, LEN, NV, PE, W, WANT}
 use Rattle.cells.specs.View.{at, rd}
 use Rattle.packed.proofs.Spaces.{space-renamed}
 use Rattle.packed.specs.Places.{Space}
@@ -116,6 +116,8 @@ module _ (n me flag : ℕ) (aggressive : Bool) (X : ℕ → List ℕ) (l s : Lis
       -- of a row that stays: its elements, and its degree
       pub counts : (x : ℕ) → member x (done t) ≡ true → 0 < kept x → rd n ELEN (m .mem) x ≡ suc (length (keptE n flag aggressive s (E x)))
       pub lowered : (x : ℕ) → member x (done t) ≡ true → 0 < kept x → size x < 2 ^ 63 → rd n DEGREE (m .mem) x ≡ min (rd n DEGREE s x) (size x)
+      -- a row that goes has no weight
+      pub weights : (x : ℕ) → me ≢ x → rd n NV (m .mem) x ≡ cond (member x (done t) && not (ltb 0 (kept x))) 0 (rd n NV s x)
       pub pe : rd n PE (m .mem) me ≡ rd n PE s me
       pub length-of : rd n LEN (m .mem) me ≡ rd n LEN s me
 
@@ -247,8 +249,9 @@ module _ (n me flag : ℕ) (aggressive : Bool) (X : ℕ → List ℕ) (l s : Lis
           → ((v : ℕ) → rd n WANT (r .mem) v ≡ rd n WANT (m .mem) v) → ((x : ℕ) → member x gone ≡ true → rd n W (r .mem) x ≡ 0)
           → ((k x : ℕ) → Place k → i ≢ x → member x gone ≡ false → rd n k (r .mem) x ≡ rd n k (m .mem) x)
           → (0 < kept i → rd n ELEN (r .mem) i ≡ suc (length es)) → (0 < kept i → size i < 2 ^ 63 → rd n DEGREE (r .mem) i ≡ min (rd n DEGREE s i) (size i))
+          → ((x : ℕ) → me ≢ x → i ≢ x → rd n NV (r .mem) x ≡ rd n NV (m .mem) x) → rd n NV (r .mem) i ≡ cond (not (ltb 0 (kept i))) 0 (rd n NV s i)
           → Along (suc t) r
-      ended sp lo wa ta ot cn dg =
+      ended sp lo wa ta ot cn dg nx ni =
           record {
             space = space-renamed n (upd (without gone (Xof (done t))) i (list i)) (r .lists) (r .mem) cnt base lim sp (Xof (done (suc t))) (λ j. lists-are j (same? j i));
             long = lo ∙ h .long;
@@ -272,6 +275,12 @@ module _ (n me flag : ℕ) (aggressive : Bool) (X : ℕ → List ℕ) (l s : Lis
             lowered = λ x k.
                 ⊎-elim (λ e. subst⁻¹ (λ (y : ℕ). 0 < kept y → size y < 2 ^ 63 → rd n DEGREE (r .mem) y ≡ min (rd n DEGREE s y) (size y)) e dg)
                 (λ d z y. ot DEGREE x (inr (inr (inr (inr refl)))) (λ w. d (sym w)) (row-safe x (inr (sooner (suc t) x b k))) ∙ h .lowered x (sym (other-done x d) ∙ k) z y)
+                (same? x i);
+            weights = λ x d.
+                ⊎-elim
+                (λ e. subst⁻¹ (λ (y : ℕ). rd n NV (r .mem) y ≡ cond (member y (done (suc t)) && not (ltb 0 (kept y))) 0 (rd n NV s y)) e
+                (rw (ap (member i) more ∙ member-right i (done t) (i ∷ []) (member-here i [])) ni))
+                (λ z. nx x d (λ y. z (sym y)) ∙ h .weights x d ∙ rw (other-done x z))
                 (same? x i);
             pe = ot PE me (inl refl) (λ z. differ (sym z)) (row-safe me (inl refl)) ∙ h .pe;
             length-of = ot LEN me (inr (inl refl)) (λ z. differ (sym z)) (row-safe me (inl refl)) ∙ h .length-of;
@@ -321,6 +330,8 @@ module _ (n me flag : ℕ) (aggressive : Bool) (X : ℕ → List ℕ) (l s : Lis
           (λ v. q .1 .fields WANT v refl refl refl refl refl refl refl refl) (λ x y. q .1 .taken x y .0) (λ k x o d y. q .1 .others k x (no-table k o .0) d y)
           (λ z. q .1 .elen ∙ ap (λ (y : List ℕ). suc (length y)) same-es)
           (λ z y. q .1 .degree (rw same-size y) ∙ rw (same-size, h .degrees i is-row (once t b)))
+          (λ x d z. q .1 .fields NV x refl refl refl refl refl refl refl refl)
+          (rw (lt-ltb 0 (kept i) some) (q .1 .fields NV i refl refl refl refl refl refl refl refl ∙ h .weights i differ ∙ rw (once t b)))
 
       goes-way : length es + length vs ≤ 0 → Along (suc t) r
       goes-way nil =
@@ -331,6 +342,7 @@ module _ (n me flag : ℕ) (aggressive : Bool) (X : ℕ → List ℕ) (l s : Lis
           ended (subst (λ (y : List ℕ). Space n (upd (without gone (Xof (done t))) i y) (r .lists) (r .mem) cnt base lim) is (q .0)) (q .3)
           (λ v. q .1 .fields WANT v refl refl refl refl refl) (λ x y. q .1 .taken x y .0) (λ k x o d y. q .1 .others k x (no-table k o .1) (no-table k o .2) d y)
           (λ z. absurd (omega arith)) (λ z. absurd (omega arith))
+          (λ x d z. q .1 .weights x d z) (rw (le-ltb 0 (kept i) nil) (q .1 .none))
 
       turn : Along (suc t) (step t m)
       unfolding updatedAt
@@ -349,6 +361,7 @@ module _ (n me flag : ℕ) (aggressive : Bool) (X : ℕ → List ℕ) (l s : Lis
           degrees = λ x k y. refl;
           counts = λ x k. absurd (clash (member x (done 0)) k (rw (entries-none (at l) from) (member-nil x)));
           lowered = λ x k. absurd (clash (member x (done 0)) k (rw (entries-none (at l) from) (member-nil x)));
+          weights = λ x d. rw (entries-none (at l) from, member-nil x);
           length-of = refl;
         }
 
