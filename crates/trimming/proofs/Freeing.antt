@@ -1,0 +1,190 @@
+-- Elements that a new one takes up: the memory without their lists.
+-- Assumes nothing.
+use Prim.Native.Nat.{_+_, _<_, _≤_, ℕ}
+use native.Mathlib.Omega.{arith}
+use mathlib.Core.Bool.{false, true, cond}
+use mathlib.Core.List.{List, [], _++_, _∷_}
+use mathlib.Core.Logic.{_≢_, _⊎_, inl, inr, ⊎-elim}
+use mathlib.Core.Option.{Option}
+use mathlib.Core.Path.{_∙_, _≡_, ap, refl, subst⁻¹, sym}
+use borrow.Author.Tests.{lt-ltb}
+use lib.Dec.{eqb, ltb}
+use lib.IntN.{ℤ}
+use Rattle.plain.proofs.Entries.{entries-none, upd-other, upd-same}
+use Rattle.plain.proofs.Logic.{clash, either}
+use Rattle.plain.proofs.Members.{append-either, member-either, member-first, member-left, member-nil, member-right, not-in}
+use Rattle.plain.specs.Lists.{member}
+use Rattle.plain.specs.Turns.{entries, upd}
+use Rattle.cells.proofs.Laws.{mem, rd-hang-cell, rd-hang-field, rd-up-field, room-yes}
+use Rattle.cells.proofs.Parents.{room-hang}
+use Rattle.cells.proofs.Slices.{same?, split}
+use Rattle.cells.specs.Layout.{LEN, ORD, PE, W}
+use Rattle.cells.specs.Links.{hang, named, parent}
+use Rattle.cells.specs.View.{at, rd, roomy, up}
+use Rattle.packed.proofs.Orders.{sorted-by, sorted-fewer}
+use Rattle.packed.proofs.Spaces.{space-dropped, space-field, space-renamed}
+use Rattle.packed.specs.Places.{Owns, Space, places}
+use Rattle.trimming.specs.Model.{absorbed}
+
+-- ---- a parent link of a dead object
+
+module _ (n : ℕ) (X : ℕ → List ℕ) (l s : List ℤ) (cnt base lim : ℕ) (h : Space n X l s cnt base lim) (e : ℕ) (dead : rd n LEN s e ≡ 0) (x : Option ℕ) where
+  len-hung : (j : ℕ) → rd n LEN (hang n s e x) j ≡ rd n LEN s j
+  len-hung j = rd-hang-field n LEN s e x j refl
+
+  -- a live object is another
+  pe-hung : (j : ℕ) → 0 < rd n LEN s j → rd n PE (hang n s e x) j ≡ rd n PE s j
+  pe-hung j a = rd-hang-cell n PE s e x j (λ y. absurd (omega (arith, ap (rd n LEN s) y)))
+
+  was : (j q : ℕ) → Owns (places n (hang n s e x)) j q → Owns (places n s) j q
+  was j q o =
+      let a : 0 < rd n LEN s j = omega (arith, o .from, o .to, len-hung j) in
+      record { from = omega (arith, o .from, pe-hung j a); to = omega (arith, o .to, pe-hung j a, len-hung j) }
+
+  list-hung : (j : ℕ) → (0 < rd n LEN s j) ⊎ (rd n LEN s j ≤ 0) → entries (at l) (rd n PE (hang n s e x) j) (rd n LEN (hang n s e x) j) ≡ X j
+  list-hung j (inl a) = rw (len-hung j, pe-hung j a) (h .lists .lists j)
+  list-hung j (inr a) =
+      let z : rd n LEN s j ≡ 0 = omega arith in
+      rw (len-hung j, z) (entries-none (at l) (rd n PE (hang n s e x) j) ∙ sym (entries-none (at l) (rd n PE s j)) ∙ ap (entries (at l) (rd n PE s j)) (sym z) ∙ h .lists .lists j)
+
+  pub space-hung : Space n X l (hang n s e x) cnt base lim
+  space-hung =
+      record {
+        lists = record {
+          lists = λ j. list-hung j (split 0 (rd n LEN s j));
+          one = λ i j q a b. h .lists .one i j q (was i q a) (was j q b);
+          under = λ j q a. h .lists .under j q (was j q a);
+          fits = h .lists .fits;
+        };
+        room = room-hang n s e x (h .room);
+        sorted = sorted-by (places n (hang n s e x)) (rd n ORD s) (rd n ORD (hang n s e x)) (λ t. rd-hang-field n ORD s e x t refl) cnt base lim
+            (sorted-fewer (places n s) (places n (hang n s e x))
+            (λ j y. (pe-hung j (omega (arith, len-hung j)), omega (arith, len-hung j))) (rd n ORD s) cnt base lim lim (omega arith) (h .sorted));
+      }
+
+-- ---- one more in a list
+
+snoc-out : (x e : ℕ) (xs : List ℕ) → member x (xs ++ (e ∷ [])) ≡ false → (member x xs ≡ false) × (e ≢ x)
+snoc-out x e xs h = (
+  not-in x xs (λ a. clash (member x (xs ++ (e ∷ []))) (member-left x xs (e ∷ []) a) h),
+  λ a. clash (member x (xs ++ (e ∷ []))) (member-right x xs (e ∷ []) (member-first x e [] (sym a))) h,
+)
+
+snoc-in : (x e : ℕ) (xs : List ℕ) → member x (xs ++ (e ∷ [])) ≡ true → (x ≡ e) ⊎ (member x xs ≡ true)
+snoc-in x e xs h =
+    ⊎-elim (λ a. inr a) (λ a. ⊎-elim (λ b. inl b) (λ b. absurd (clash (member x []) b (member-nil x))) (member-either x e [] a)) (append-either x xs (e ∷ []) h)
+
+snoc-known : (e : ℕ) (xs : List ℕ) → member e xs ≡ true → (x : ℕ) → member x (xs ++ (e ∷ [])) ≡ member x xs
+snoc-known e xs k x =
+    either (member x (xs ++ (e ∷ [])) ≡ member x xs) (member x (xs ++ (e ∷ [])))
+    (λ a. a ∙ sym (⊎-elim (λ b. ap (λ (y : ℕ). member y xs) b ∙ k) (λ b. b) (snoc-in x e xs a)))
+    (λ a. a ∙ sym (snoc-out x e xs a .0))
+
+-- ---- elements that are gone
+
+abbrev pub without : List ℕ → (ℕ → List ℕ) → ℕ → List ℕ
+without gone X j = cond (member j gone) [] (X j)
+
+-- s′ is s, but that the elements of `gone` are children of me
+pub record Freed (n me : ℕ) (X : ℕ → List ℕ) (l s : List ℤ) (cnt base lim : ℕ) (gone : List ℕ) (s′ : List ℤ) : Type 0 where
+  pub space : Space n (without gone X) l s′ cnt base lim
+  pub fields : (f x : ℕ) → eqb 0 f ≡ false → eqb 1 f ≡ false → eqb 5 f ≡ false → rd n f s′ x ≡ rd n f s x
+  pub others : (f x : ℕ) → member x gone ≡ false → rd n f s′ x ≡ rd n f s x
+  pub kin : (x : ℕ) → member x gone ≡ false → parent n s′ x ≡ parent n s x
+  pub marks : (x : ℕ) → member x gone ≡ true → rd n W s′ x ≡ 0
+  pub lens : (x : ℕ) → member x gone ≡ true → rd n LEN s′ x ≡ 0
+  pub links : (x : ℕ) → member x gone ≡ true → parent n s′ x ≡ named n me
+
+module _ (n me : ℕ) (X : ℕ → List ℕ) (l s : List ℤ) (cnt base lim : ℕ) where
+  pub freed-none : Space n X l s cnt base lim → Freed n me X l s cnt base lim [] s
+  freed-none h =
+      record {
+        space = space-renamed n X l s cnt base lim h (without [] X) (λ j. rw (member-nil j));
+        fields = λ f x a b c. refl;
+        others = λ f x a. refl;
+        kin = λ x a. refl;
+        marks = λ x a. absurd (clash (member x []) a (member-nil x));
+        lens = λ x a. absurd (clash (member x []) a (member-nil x));
+        links = λ x a. absurd (clash (member x []) a (member-nil x));
+      }
+
+  module _ (gone : List ℕ) (s′ : List ℤ) (h : Freed n me X l s cnt base lim gone s′) (e : ℕ) where
+    -- one that is gone already
+    pub freed-again : member e gone ≡ true → Freed n me X l s cnt base lim (gone ++ (e ∷ [])) s′
+    freed-again k =
+        record {
+          space = space-renamed n (without gone X) l s′ cnt base lim (h .space) (without (gone ++ (e ∷ [])) X) (λ j. rw (snoc-known e gone k j));
+          fields = h .fields;
+          others = λ f x a. h .others f x (sym (snoc-known e gone k x) ∙ a);
+          kin = λ x a. h .kin x (sym (snoc-known e gone k x) ∙ a);
+          marks = λ x a. h .marks x (sym (snoc-known e gone k x) ∙ a);
+          lens = λ x a. h .lens x (sym (snoc-known e gone k x) ∙ a);
+          links = λ x a. h .links x (sym (snoc-known e gone k x) ∙ a);
+        }
+
+    -- one more
+    module _ (he : e < n) where
+      abbrev a : List ℤ
+      a = up n W s′ e 0
+
+      abbrev b : List ℤ
+      b = up n LEN a e 0
+
+      lists-more : (j : ℕ) → (j ≡ e) ⊎ (j ≢ e) → upd (without gone X) e [] j ≡ without (gone ++ (e ∷ [])) X j
+      lists-more j (inl u) =
+          subst⁻¹ (λ (y : ℕ). upd (without gone X) e [] y ≡ without (gone ++ (e ∷ [])) X y) u
+          (upd-same (without gone X) e [] ∙ rw (member-right e gone (e ∷ []) (member-first e e [] refl)))
+      lists-more j (inr u) =
+          upd-other (without gone X) e [] j u
+          ∙ either (without gone X j ≡ without (gone ++ (e ∷ [])) X j) (member j gone)
+          (λ k. rw (k, member-left j gone (e ∷ []) k))
+          (λ k. rw (k, not-in j (gone ++ (e ∷ [])) (λ c. ⊎-elim (λ d. absurd (u d)) (λ d. clash (member j gone) d k) (snoc-in j e gone c))))
+
+      room : roomy n s′ ≡ true
+      room = room-yes n s′ (h .space .room)
+
+      inside : ltb e n ≡ true
+      inside = lt-ltb e n he
+
+      -- e itself
+      mark-here : rd n W (hang n b e (named n me)) e ≡ 0
+      mark-here = simp (mem, room, inside)
+
+      len-here : rd n LEN (hang n b e (named n me)) e ≡ 0
+      len-here = simp (mem, room, inside)
+
+      len-before : rd n LEN b e ≡ 0
+      len-before = simp (mem, room, inside)
+
+      link-here : parent n (hang n b e (named n me)) e ≡ named n me
+      link-here = simp (mem, room, inside)
+
+      -- the others
+      kept-field : (f x : ℕ) → e ≢ x → rd n f (hang n b e (named n me)) x ≡ rd n f s′ x
+      kept-field f x d = simp mem
+
+      kept-link : (x : ℕ) → e ≢ x → parent n (hang n b e (named n me)) x ≡ parent n s′ x
+      kept-link x d = simp mem
+
+      by : {A : Type 0} (F : ℕ → A) (c : A) (x : ℕ) → F e ≡ c → (e ≢ x → member x gone ≡ true → F x ≡ c) → member x (gone ++ (e ∷ [])) ≡ true → F x ≡ c
+      by F c x u v k =
+          ⊎-elim (λ d. ap F d ∙ u)
+          (λ d. ⊎-elim (λ y. ap F (sym y) ∙ u) (λ y. v y d) (same? e x))
+          (snoc-in x e gone k)
+
+      pub freed-more : Freed n me X l s cnt base lim (gone ++ (e ∷ [])) (absorbed n me e s′)
+      unfolding absorbed
+      freed-more =
+          record {
+            space = space-renamed n (upd (without gone X) e []) l (hang n b e (named n me)) cnt base lim
+                (space-hung n (upd (without gone X) e []) l b cnt base lim
+                (space-dropped n (without gone X) l a cnt base lim (space-field n (without gone X) l s′ cnt base lim (h .space) W e 0 refl refl refl) e he)
+                e len-before (named n me))
+                (without (gone ++ (e ∷ [])) X) (λ j. lists-more j (same? j e));
+            fields = λ f x u v w. rd-hang-field n f b e (named n me) x u ∙ rd-up-field n LEN f a e 0 x v ∙ rd-up-field n W f s′ e 0 x w ∙ h .fields f x u v w;
+            others = λ f x u. let o = snoc-out x e gone u in kept-field f x (o .1) ∙ h .others f x (o .0);
+            kin = λ x u. let o = snoc-out x e gone u in kept-link x (o .1) ∙ h .kin x (o .0);
+            marks = λ x u. by (rd n W (hang n b e (named n me))) 0 x mark-here (λ d k. kept-field W x d ∙ h .marks x k) u;
+            lens = λ x u. by (rd n LEN (hang n b e (named n me))) 0 x len-here (λ d k. kept-field LEN x d ∙ h .lens x k) u;
+            links = λ x u. by (parent n (hang n b e (named n me))) (named n me) x link-here (λ d k. kept-link x d ∙ h .links x k) u;
+          }

@@ -1,0 +1,32 @@
+use Rattle.trimming.proofs.Steps.{bury-step}
+use borrow.Author.Needs.{needs}
+use Rattle.trimming.proofs.bury.Statement.{statement}
+use Rattle.trimming.proofs.bury.Tie as tie
+use Rattle.trimming.proofs.bury.Reads as reads
+use Rattle.trimming.proofs.bury.Lts as lts
+use Rattle.cells.proofs.put.Reads as put-reads
+use Rattle.cells.proofs.put_parent.Reads as put-parent-reads
+use Rattle.cells.proofs.up.Reads as up-reads
+
+-- src/lib.rt:216:5
+up-requires : tie.Need-up-requires
+up-requires c κs = search needs
+
+-- src/lib.rt:217:5
+put-parent-requires : tie.Need-put-parent-requires
+put-parent-requires c κs = search needs
+
+-- src/lib.rt:218:5
+put-requires : tie.Need-put-requires
+put-requires c κs = search needs
+
+-- src/lib.rt:212:1
+same-length : tie.Need-same-length
+same-length c = search needs
+
+-- src/lib.rt:212:1
+returns : tie.Need-returns
+returns c = search (needs, bury-step)
+
+pub bury-spec : {M : Type 1} → statement M
+bury-spec = tie.close (tie.spec up-requires put-parent-requires put-requires same-length returns)

@@ -1,0 +1,59 @@
+use Rattle.trimming.proofs.Steps.{element-no, element-yes}
+use borrow.Author.Needs.{needs}
+use Rattle.trimming.proofs.keep_element.Statement.{statement}
+use Rattle.trimming.proofs.keep_element.Tie as tie
+use Rattle.trimming.proofs.keep_element.Reads as reads
+use Rattle.trimming.proofs.keep_element.Lts as lts
+use Rattle.cells.proofs.peek.Reads as peek-reads
+use Rattle.cells.proofs.rd.Reads as rd-reads
+use Rattle.trimming.proofs.keep_live.Reads as keep-live-reads
+
+-- src/lib.rt:102:9
+peek-requires : tie.Need-peek-requires
+peek-requires c κs = search needs
+
+-- src/lib.rt:103:9
+rd-requires : tie.Need-rd-requires
+rd-requires c κs = search needs
+
+-- src/lib.rt:105:9
+keep-live-requires : tie.Need-keep-live-requires
+keep-live-requires c κs = search needs
+
+-- src/lib.rt:88:1
+same-length : tie.Need-same-length
+same-length c = search needs
+
+-- src/lib.rt:88:1
+same-length-2 : tie.Need-same-length-2
+same-length-2 c = search needs
+
+-- src/lib.rt:88:1
+returns : tie.Need-returns
+returns c = search (needs, element-yes)
+
+-- src/lib.rt:88:1
+same-length-3 : tie.Need-same-length-3
+same-length-3 c = search needs
+
+-- src/lib.rt:88:1
+same-length-4 : tie.Need-same-length-4
+same-length-4 c = search needs
+
+-- src/lib.rt:88:1
+returns-2 : tie.Need-returns-2
+returns-2 c = search (needs, element-no)
+
+pub keep-element-spec : {M : Type 1} → statement M
+keep-element-spec =
+    tie.close
+    (tie.spec
+    peek-requires
+    rd-requires
+    keep-live-requires
+    same-length
+    same-length-2
+    returns
+    same-length-3
+    same-length-4
+    returns-2)

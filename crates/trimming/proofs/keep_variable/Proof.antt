@@ -1,0 +1,49 @@
+use Rattle.trimming.proofs.Steps.{variable-no, variable-yes}
+use borrow.Author.Needs.{needs}
+use Rattle.trimming.proofs.keep_variable.Statement.{statement}
+use Rattle.trimming.proofs.keep_variable.Tie as tie
+use Rattle.trimming.proofs.keep_variable.Reads as reads
+use Rattle.trimming.proofs.keep_variable.Lts as lts
+use Rattle.cells.proofs.peek.Reads as peek-reads
+use Rattle.cells.proofs.rd.Reads as rd-reads
+use Rattle.trimming.proofs.keep_entry.Reads as keep-entry-reads
+
+-- src/lib.rt:142:9
+peek-requires : tie.Need-peek-requires
+peek-requires c κs = search needs
+
+-- src/lib.rt:143:9
+rd-requires : tie.Need-rd-requires
+rd-requires c κs = search needs
+
+-- src/lib.rt:145:9
+keep-entry-requires : tie.Need-keep-entry-requires
+keep-entry-requires c κs = search needs
+
+-- src/lib.rt:138:1
+same-length : tie.Need-same-length
+same-length c = search needs
+
+-- src/lib.rt:138:1
+returns : tie.Need-returns
+returns c = search (needs, variable-yes)
+
+-- src/lib.rt:138:1
+same-length-2 : tie.Need-same-length-2
+same-length-2 c = search needs
+
+-- src/lib.rt:138:1
+returns-2 : tie.Need-returns-2
+returns-2 c = search (needs, variable-no)
+
+pub keep-variable-spec : {M : Type 1} → statement M
+keep-variable-spec =
+    tie.close
+    (tie.spec
+    peek-requires
+    rd-requires
+    keep-entry-requires
+    same-length
+    returns
+    same-length-2
+    returns-2)

@@ -1,0 +1,71 @@
+use Rattle.trimming.specs.Model.{Small, halfway, keeping, keptVariable, keptVariables}
+use Prim.Native.Nat.{_+_, _≤_, _-_}
+use Rattle.plain.proofs.Turns.{begin, turn, finish}
+use Rattle.plain.specs.Turns.{Turned}
+use lib.ListN.{length}
+use mathlib.Core.Path.{_≡_}
+use borrow.Author.Needs.{needs}
+use Rattle.trimming.proofs.keep_variables.Statement.{statement}
+use Rattle.trimming.proofs.keep_variables.Tie as tie
+use Rattle.trimming.proofs.keep_variables.Reads as reads
+use Rattle.trimming.proofs.keep_variables.Lts as lts
+use Rattle.trimming.proofs.keep_variable.Reads as keep-variable-reads
+
+abbrev Inv-loop : tie.InvT-loop
+Inv-loop lists₀ s n p from len k₀ t₀ lists k t = Turned (λ j m. keptVariable n (from + j) (p + m .kept .cnt) m) (keeping lists₀ s (halfway k₀)) t (keeping lists s k) × (length lists ≡ length lists₀) × Small k × (t ≤ len)
+
+abbrev μ-loop : tie.MeasureT-loop
+μ-loop lists₀ s n p from len k₀ t₀ lists k t = len - t
+
+-- src/lib.rt:170:5
+loop-holds : tie.Need-loop-holds Inv-loop μ-loop
+loop-holds c = search (needs, begin)
+
+-- src/lib.rt:171:40
+add-keep-variable : tie.Need-add-keep-variable Inv-loop μ-loop
+add-keep-variable c = search needs
+
+-- src/lib.rt:171:50
+add-keep-variable-2 : tie.Need-add-keep-variable-2 Inv-loop μ-loop
+add-keep-variable-2 c = search needs
+
+-- src/lib.rt:171:9
+keep-variable-requires : tie.Need-keep-variable-requires Inv-loop μ-loop
+keep-variable-requires c κs = search needs
+
+-- src/lib.rt:170:9
+add-t : tie.Need-add-t Inv-loop μ-loop
+add-t c = search needs
+
+-- src/lib.rt:170:5
+loop-less : tie.Need-loop-less Inv-loop μ-loop
+loop-less c = search needs
+
+-- src/lib.rt:170:5
+loop-again : tie.Need-loop-again Inv-loop μ-loop
+loop-again c = search (needs, turn)
+
+-- src/lib.rt:152:1
+same-length : tie.Need-same-length Inv-loop μ-loop
+same-length c = search needs
+
+-- src/lib.rt:152:1
+returns : tie.Need-returns Inv-loop μ-loop
+unfolding keptVariables
+returns c = search (needs, finish)
+
+pub keep-variables-spec : {M : Type 1} → statement M
+keep-variables-spec =
+    tie.close
+    (tie.spec
+    Inv-loop
+    μ-loop
+    loop-holds
+    add-keep-variable
+    add-keep-variable-2
+    keep-variable-requires
+    add-t
+    loop-less
+    loop-again
+    same-length
+    returns)

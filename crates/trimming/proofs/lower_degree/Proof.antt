@@ -1,0 +1,36 @@
+use Rattle.trimming.proofs.Steps.{lower-no, lower-yes}
+use borrow.Author.Needs.{needs}
+use Rattle.trimming.proofs.lower_degree.Statement.{statement}
+use Rattle.trimming.proofs.lower_degree.Tie as tie
+use Rattle.trimming.proofs.lower_degree.Reads as reads
+use Rattle.trimming.proofs.lower_degree.Lts as lts
+use Rattle.cells.proofs.rd.Reads as rd-reads
+use Rattle.cells.proofs.up.Reads as up-reads
+
+-- src/lib.rt:270:9
+rd-requires : tie.Need-rd-requires
+rd-requires c κs = search needs
+
+-- src/lib.rt:272:9
+up-requires : tie.Need-up-requires
+up-requires c κs = search needs
+
+-- src/lib.rt:266:1
+same-length : tie.Need-same-length
+same-length c = search needs
+
+-- src/lib.rt:266:1
+returns : tie.Need-returns
+returns c = search (needs, lower-yes)
+
+-- src/lib.rt:266:1
+same-length-2 : tie.Need-same-length-2
+same-length-2 c = search needs
+
+-- src/lib.rt:266:1
+returns-2 : tie.Need-returns-2
+returns-2 c = search (needs, lower-no)
+
+pub lower-degree-spec : {M : Type 1} → statement M
+lower-degree-spec =
+    tie.close (tie.spec rd-requires up-requires same-length returns same-length-2 returns-2)

@@ -1,0 +1,62 @@
+use Rattle.trimming.proofs.Steps.{relist-lists, relist-mem}
+use borrow.Author.Needs.{needs}
+use Rattle.trimming.proofs.relist.Statement.{statement}
+use Rattle.trimming.proofs.relist.Tie as tie
+use Rattle.trimming.proofs.relist.Reads as reads
+use Rattle.trimming.proofs.relist.Lts as lts
+use Rattle.cells.proofs.rd.Reads as rd-reads
+use Rattle.trimming.proofs.finish_list.Reads as finish-list-reads
+use Rattle.trimming.proofs.key_of.Reads as key-of-reads
+use Rattle.trimming.proofs.lower_degree.Reads as lower-degree-reads
+use Rattle.trimming.proofs.put_key.Reads as put-key-reads
+use Rattle.trimming.proofs.turn_list.Reads as turn-list-reads
+
+-- src/lib.rt:300:9
+rd-requires : tie.Need-rd-requires
+rd-requires c κs = search needs
+
+-- src/lib.rt:301:5
+turn-list-requires : tie.Need-turn-list-requires
+turn-list-requires c κs = search needs
+
+-- src/lib.rt:302:5
+finish-list-requires : tie.Need-finish-list-requires
+finish-list-requires c κs = search needs
+
+-- src/lib.rt:303:5
+lower-degree-requires : tie.Need-lower-degree-requires
+lower-degree-requires c κs = search needs
+
+-- src/lib.rt:304:9
+key-of-requires : tie.Need-key-of-requires
+key-of-requires c κs = search needs
+
+-- src/lib.rt:305:5
+put-key-requires : tie.Need-put-key-requires
+put-key-requires c κs = search needs
+
+-- src/lib.rt:296:1
+same-length : tie.Need-same-length
+same-length c = search needs
+
+-- src/lib.rt:296:1
+same-length-2 : tie.Need-same-length-2
+same-length-2 c = search needs
+
+-- src/lib.rt:296:1
+returns : tie.Need-returns
+returns c = search (needs, relist-mem, relist-lists)
+
+pub relist-spec : {M : Type 1} → statement M
+relist-spec =
+    tie.close
+    (tie.spec
+    rd-requires
+    turn-list-requires
+    finish-list-requires
+    lower-degree-requires
+    key-of-requires
+    put-key-requires
+    same-length
+    same-length-2
+    returns)

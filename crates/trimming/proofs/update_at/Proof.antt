@@ -1,0 +1,32 @@
+use Rattle.trimming.proofs.Steps.{at-step}
+use borrow.Author.Needs.{needs}
+use Rattle.trimming.proofs.update_at.Statement.{statement}
+use Rattle.trimming.proofs.update_at.Tie as tie
+use Rattle.trimming.proofs.update_at.Reads as reads
+use Rattle.trimming.proofs.update_at.Lts as lts
+use Rattle.cells.proofs.peek.Reads as peek-reads
+use Rattle.trimming.proofs.update_variable.Reads as update-variable-reads
+
+-- src/lib.rt:347:9
+peek-requires : tie.Need-peek-requires
+peek-requires c κs = search needs
+
+-- src/lib.rt:348:5
+update-variable-requires : tie.Need-update-variable-requires
+update-variable-requires c κs = search needs
+
+-- src/lib.rt:334:1
+same-length : tie.Need-same-length
+same-length c = search needs
+
+-- src/lib.rt:334:1
+same-length-2 : tie.Need-same-length-2
+same-length-2 c = search needs
+
+-- src/lib.rt:334:1
+returns : tie.Need-returns
+returns c = search (needs, at-step)
+
+pub update-at-spec : {M : Type 1} → statement M
+update-at-spec =
+    tie.close (tie.spec peek-requires update-variable-requires same-length same-length-2 returns)

@@ -1,0 +1,2 @@
+-- The definitions that the contracts of `trimming` cite.
+pub mod Model
