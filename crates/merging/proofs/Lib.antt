@@ -1,0 +1,3 @@
+-- The modules of `merging` that belong to no one function.
+pub mod Steps
+pub mod Walks

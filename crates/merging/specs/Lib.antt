@@ -1,0 +1,2 @@
+-- The definitions that the contracts and the theorems of `merging` cite.
+pub mod Model
