@@ -1,3 +1,4 @@
 -- The modules of `merging` that belong to no one function.
 pub mod Steps
 pub mod Walks
+pub mod Marks
