@@ -10,9 +10,9 @@ use mathlib.Core.Path.{_∙_, _≡_, ap, refl, subst, subst⁻¹, sym}
 use borrow.Author.Tests.{eq-eqb, lt-ltb, ltb-true, ne-eqb}
 use lib.Dec.{eqb, ltb}
 use lib.IntN.{ℤ}
-use lib.ListN.{length}
+use lib.ListN.{getD, length}
 use Rattle.plain.proofs.Entries.{entries-none, upd-other, upd-same}
-use Rattle.plain.proofs.Logic.{either}
+use Rattle.plain.proofs.Logic.{clash, either}
 use Rattle.plain.proofs.Members.{member-there}
 use Rattle.plain.specs.Lists.{isNone, member}
 use Rattle.plain.specs.Members.{In}
@@ -32,6 +32,7 @@ use Rattle.facts.proofs.Merging.{degrees-kept, elements-kept, kind-gone, kind-k
 use Rattle.facts.specs.Invariant.{Sized}
 use Rattle.packed.proofs.Frame.{changed}
 use Rattle.packed.proofs.Orders.{sorted-by, sorted-fewer}
+use Rattle.packed.proofs.Spaces.{space-renamed}
 use Rattle.packed.specs.Places.{Owns, Space, places}
 use Rattle.merging.specs.Model.{joined, left, weighed}
 
@@ -123,3 +124,78 @@ module _ (n : ℕ) (s : List ℤ) (i j log : ℕ) (r : Room n s) (hi : i < n) (h
   pub join-log : (t : ℕ) → t ≢ log → rd n MERGES (joined n s i j log) t ≡ rd n MERGES s t
   unfolding joined left weighed
   join-log t e = simp mem
+
+-- ---- the graph that the memory then holds
+
+module _ {n : ℕ} (l s : List ℤ) (g : Graph) (p : ℕ) (new : List ℕ) (cnt base lim : ℕ) (h : Within n l s g p new cnt base lim) (sized : Sized n g)
+    (i j log : ℕ) (hi : i < n) (hj : j < n) (d : i ≢ j) (jp : j ≢ p) (mi : In i new) (mj : In j new) (heavy : hasWeight g i ≡ true)
+    (small : weight g i + weight g j < 2 ^ 63) where
+  abbrev t : Graph
+  t = mergeInto i j g
+
+  abbrev s′ : List ℤ
+  s′ = joined n s i j log
+
+  r : Room n s
+  r = h .space .room
+
+  weights : (v : ℕ) → v < n → (v ≡ i) ⊎ (v ≢ i) → (v ≡ j) ⊎ (v ≢ j) → rd n NV s′ v ≡ weight t v
+  weights v b (inl e) f =
+      let a = h .weights i hi in
+      let c = h .weights j hj in
+      rw e (join-weight n s i j log r hi hj d (omega arith) ∙ rw (a, c) (sym (weight-into i j g sized hi d)))
+  weights v b (inr e) (inl f) = rw f (join-light n s i j log r hi hj d ∙ sym (weight-gone i j g sized hj))
+  weights v b (inr e) (inr f) = join-weights n s i j log r hi hj d v e f ∙ h .weights v b ∙ sym (weight-kept i j v g e f)
+
+  -- nobody of the new element is wanted
+  unwanted : (v : ℕ) → In v new → (k : Graph) → cond (isVariable (kind k v) && not (member v (p ∷ new))) (weight k v) 0 ≡ 0
+  unwanted v m k = rw (member-there v p new m) (go (isVariable (kind k v)))
+    where
+      go : (b : Bool) → cond (b && false) (weight k v) 0 ≡ 0
+      go true = refl
+      go false = refl
+
+  wants : (v : ℕ) → v < n → (v ≡ i) ⊎ (v ≢ i) → (v ≡ j) ⊎ (v ≢ j)
+      → rd n WANT s v ≡ cond (isVariable (kind t v) && not (member v (p ∷ new))) (weight t v) 0
+  wants v b (inl e) f = rw e (h .wants i hi ∙ unwanted i mi g ∙ sym (unwanted i mi t))
+  wants v b (inr e) (inl f) = rw f (h .wants j hj ∙ unwanted j mj g ∙ sym (unwanted j mj t))
+  wants v b (inr e) (inr f) = rw (kind-kept i j v g f, weight-kept i j v g e f) (h .wants v b)
+
+  parents : (v : ℕ) → v < n → rd n LEN s′ v ≡ 0 → (v ≡ j) ⊎ (v ≢ j) → parent n s′ v ≡ state.parent t v
+  parents v b z (inl e) = rw e (join-parent n s i j log r hi hj d ∙ sym (parent-gone i j g sized hj))
+  parents v b z (inr e) =
+      join-parents n s i j log r hi hj d v e
+      ∙ h .parents v b (sym (join-gone n s i j log r hi hj d .len v e) ∙ z)
+      ∙ sym (parent-kept i j v g e)
+
+  still : (v : ℕ) → v ≢ j → (v ≡ i) ⊎ (v ≢ i) → hasWeight t v ≡ hasWeight g v
+  still v f (inl e) =
+      rw e (lt-ltb 0 (weight t i) (omega (arith, ltb-true 0 (weight g i) heavy, weight-into i j g sized hi d)) ∙ sym heavy)
+  still v f (inr e) = ap (ltb 0) (weight-kept i j v g e f)
+
+  lists : (v : ℕ) → (v ≡ p) ⊎ (v ≢ p) → (v ≡ j) ⊎ (v ≢ j) → upd (upd (listOf g) p new) j [] v ≡ upd (listOf t) p new v
+  unfolding listOf
+  lists v (inl e) (inl f) = absurd (jp (sym f ∙ e))
+  lists v (inl e) (inr f) = rw (upd-other (upd (listOf g) p new) j [] v f, e, upd-same (listOf g) p new, upd-same (listOf t) p new)
+  lists v (inr e) (inl f) = rw (upd-other (listOf t) p new v e, f, upd-same (upd (listOf g) p new) j [], weight-gone i j g sized hj)
+  lists v (inr e) (inr f) =
+      rw (upd-other (upd (listOf g) p new) j [] v f, upd-other (listOf g) p new v e, upd-other (listOf t) p new v e, still v f (same? v i), parent-kept i j v g f, elements-kept i j g, variables-kept i j g)
+
+  elens : (v : ℕ) → isVariable (kind t v) ≡ true → (v ≡ j) ⊎ (v ≢ j) → rd n ELEN s v ≡ length (elementsOf t v)
+  elens v a (inl e) = clash (isVariable (kind t v)) a (rw (e, kind-gone i j g sized hj))
+  elens v a (inr e) = rw (elements-kept i j g) (h .elens v (ap isVariable (sym (kind-kept i j v g e)) ∙ a))
+
+  -- the memory after a merge holds the graph after it
+  pub join-drawn : Within n l s′ t p new cnt base lim
+  join-drawn =
+      record {
+        space =
+            space-renamed n (upd (upd (listOf g) p new) j []) l s′ cnt base lim
+            (space-gone n (upd (listOf g) p new) l s cnt base lim (h .space) s′ j (join-gone n s i j log r hi hj d))
+            (upd (listOf t) p new) (λ v. lists v (same? v p) (same? v j));
+        weights = λ v b. weights v b (same? v i) (same? v j);
+        wants = λ v b. join-field n s i j log r hi hj d WANT v refl refl refl refl ∙ wants v b (same? v i) (same? v j);
+        elens = λ v a. join-field n s i j log r hi hj d ELEN v refl refl refl refl ∙ elens v a (same? v j);
+        degrees = λ v b. join-field n s i j log r hi hj d DEGREE v refl refl refl refl ∙ h .degrees v b ∙ ap (λ (x : List ℕ). getD x v 0) (sym (degrees-kept i j g));
+        parents = λ v b z. parents v b z (same? v j);
+      }
