@@ -3,3 +3,5 @@ pub mod Steps
 pub mod Walks
 pub mod Marks
 pub mod Joins
+pub mod Rows
+pub mod Walked

@@ -80,7 +80,7 @@ module _ (l : List ℤ) (n i flag k₀ : ℕ) (m₀ : Comparing) where
   pub walk-start : Walking l n i flag k₀ m₀ k₀ m₀
   walk-start = record { same = refl }
 
-  next-turn : (k : ℕ) (m : Comparing) → k ≢ 0 → m .walk .next < n → followers l n i flag k m ≡ followers l n i flag (k - 1) (compared l n i flag m)
+  pub next-turn : (k : ℕ) (m : Comparing) → k ≢ 0 → m .walk .next < n → followers l n i flag k m ≡ followers l n i flag (k - 1) (compared l n i flag m)
   unfolding followers
   next-turn zero m a b = absurd (a refl)
   next-turn (suc k) m a b = let e : k ≡ suc k - 1 = omega arith in rw (lt-ltb (m .walk .next) n b, ← e)
@@ -89,7 +89,7 @@ module _ (l : List ℤ) (n i flag k₀ : ℕ) (m₀ : Comparing) where
     pub walk-more : (r : List ℤ) (v : Walk) → comparing r v ≡ compared l n i flag (comparing s w) → k ≢ 0 → w .next < n → Walking l n i flag k₀ m₀ (k - 1) (comparing r v)
     walk-more r v e a b = record { same = rw e (h .same ∙ next-turn k (comparing s w) a b) }
 
-at-end : (l : List ℤ) (n i flag k : ℕ) (m : Comparing) → n ≤ m .walk .next → followers l n i flag k m ≡ m
+pub at-end : (l : List ℤ) (n i flag k : ℕ) (m : Comparing) → n ≤ m .walk .next → followers l n i flag k m ≡ m
 unfolding followers
 at-end l n i flag zero m h = refl
 at-end l n i flag (suc k) m h = rw (le-ltb (m .walk .next) n h)
@@ -119,12 +119,12 @@ module _ (l : List ℤ) (n k c₀ i₀ : ℕ) (m₀ : Merging) where
   pub run-start : Running l n k c₀ i₀ m₀ c₀ i₀ m₀
   run-start = record { same = refl }
 
-  run-turn : (c i : ℕ) (m : Merging) → c ≢ 0 → i < n → bucketRun l n k c i m ≡ bucketRun l n k (c - 1) (rd n HNEXT (mergedAt l n k i m .mem) i) (mergedAt l n k i m)
+  pub run-turn : (c i : ℕ) (m : Merging) → c ≢ 0 → i < n → bucketRun l n k c i m ≡ bucketRun l n k (c - 1) (rd n HNEXT (mergedAt l n k i m .mem) i) (mergedAt l n k i m)
   unfolding bucketRun
   run-turn zero i m a b = absurd (a refl)
   run-turn (suc c) i m a b = let e : c ≡ suc c - 1 = omega arith in rw (lt-ltb i n b, ← e)
 
-  run-over : (c i : ℕ) (m : Merging) → n ≤ i → bucketRun l n k c i m ≡ m
+  pub run-over : (c i : ℕ) (m : Merging) → n ≤ i → bucketRun l n k c i m ≡ m
   unfolding bucketRun
   run-over zero i m h = refl
   run-over (suc c) i m h = rw (le-ltb i n h)
