@@ -5,3 +5,4 @@ pub mod Marks
 pub mod Joins
 pub mod Rows
 pub mod Walked
+pub mod Ran

@@ -29,7 +29,7 @@ use Rattle.facts.proofs.Same.{same-one-sided}
 use Rattle.merging.specs.Model.{alikeNow, allMarked, hasMark, markedList, marking, sameElements, tailMarked}
 
 -- each row of the list is marked
-abbrev markAll : ℕ → ℕ → List ℕ → List ℤ → List ℤ
+abbrev pub markAll : ℕ → ℕ → List ℕ → List ℤ → List ℤ
 markAll n flag xs s = foldl (λ m x. up n W m x flag) s xs
 
 pub marking-all : (l : List ℤ) (n flag p k : ℕ) (s : List ℤ) → marking l n flag p k s ≡ markAll n flag (entries (at l) p k) s
@@ -57,14 +57,14 @@ module _ (n flag y : ℕ) (hy : y < n) where
   stays-hit [] s r e = e
   stays-hit (x ∷ xs) s r e = stays-hit xs (up n W s x flag) (room-up n W s x flag r) (one-hit s r x (same? x y) (inr e))
 
-  hit : (xs : List ℕ) (s : List ℤ) → Room n s → In y xs → rd n W (markAll n flag xs s) y ≡ flag
+  pub hit : (xs : List ℕ) (s : List ℤ) → Room n s → In y xs → rd n W (markAll n flag xs s) y ≡ flag
   hit [] s r m = no-member y m
   hit (x ∷ xs) s r m =
       member-cases (rd n W (markAll n flag (x ∷ xs) s) y ≡ flag) y x xs m
       (λ e. stays-hit xs (up n W s x flag) (room-up n W s x flag r) (one-hit s r x (same? x y) (inl (sym e))))
       (λ d f. hit xs (up n W s x flag) (room-up n W s x flag r) f)
 
-  miss : (xs : List ℕ) (s : List ℤ) → member y xs ≡ false → rd n W (markAll n flag xs s) y ≡ rd n W s y
+  pub miss : (xs : List ℕ) (s : List ℤ) → member y xs ≡ false → rd n W (markAll n flag xs s) y ≡ rd n W s y
   miss [] s m = refl
   miss (x ∷ xs) s m =
       let d : y ≢ x = not-here y x xs m in
@@ -76,6 +76,13 @@ module _ (n flag y : ℕ) (hy : y < n) where
       either (hasMark n (markAll n flag xs s) flag y ≡ member y xs) (member y xs)
       (λ m. eq-eqb (rd n W (markAll n flag xs s) y) flag (hit xs s r m) ∙ sym m)
       (λ m. ne-eqb (rd n W (markAll n flag xs s) y) flag (λ e. let z = miss xs s m in omega arith) ∙ sym m)
+
+  -- no mark is above the flag
+  pub mark-below : (xs : List ℕ) (s : List ℤ) → Room n s → rd n W s y < flag → rd n W (markAll n flag xs s) y < flag + 1
+  mark-below xs s r b =
+      either (rd n W (markAll n flag xs s) y < flag + 1) (member y xs)
+      (λ m. let z = hit xs s r m in omega arith)
+      (λ m. let z = miss xs s m in omega arith)
 
 -- of the rows below n, xs are marked
 pub record Marked (n : ℕ) (s : List ℤ) (flag : ℕ) (xs : List ℕ) : Type 0 where

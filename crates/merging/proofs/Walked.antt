@@ -11,7 +11,7 @@ use borrow.Author.Tests.{eq-eqb, lt-ltb}
 use lib.Dec.{eqb}
 use lib.IntN.{ℤ}
 use lib.ListN.{length}
-use Rattle.plain.proofs.Logic.{either}
+use Rattle.plain.proofs.Logic.{clash, either}
 use Rattle.plain.proofs.Members.{apart, member-here, member-there, not-here, not-there}
 use Rattle.plain.specs.Lists.{consIf, keep, member}
 use Rattle.plain.specs.Members.{Distinct, In}
@@ -44,6 +44,7 @@ module _ (n : ℕ) (l : List ℤ) (p : ℕ) (new : List ℕ) (cnt base lim i fla
     pub now : Now n l p new cnt base lim (m .mem) (foldl (mergeOne oneKey i) h js)
     pub chain : Chain n (rd n HNEXT (m .mem)) (rd n HNEXT (m .mem) last) (keep (λ j. not (sameLists h i j)) js)
     pub next : (v : ℕ) → v ≢ last → member v js ≡ false → rd n HNEXT (m .mem) v ≡ rd n HNEXT s v
+    pub keeps : (v : ℕ) → Row n p new h v → (In v js → sameLists h i v ≡ false) → Row n p new (foldl (mergeOne oneKey i) h js) v
     pub fields : (c v : ℕ) → eqb NV c ≡ false → eqb LEN c ≡ false → eqb PE c ≡ false → eqb MERGES c ≡ false → eqb HNEXT c ≡ false → rd n c (m .mem) v ≡ rd n c s v
 
   alike-one : (h : Graph) (j : ℕ) → Row n p new h i → Row n p new h j → alike oneKey h i j ≡ sameLists h i j
@@ -118,6 +119,11 @@ module _ (n : ℕ) (l : List ℤ) (p : ℕ) (new : List ℕ) (cnt base lim i fla
           now = rw (alike-one h j (b .first) rj, e) (w .now);
           chain = rw e (w .chain);
           next = λ v d f. w .next v d (not-there v j js f) ∙ next₁ v d;
+          keeps = λ v r f.
+              rw (alike-one h j (b .first) rj, e)
+              (w .keeps v
+              (row-kept h (b .now .sized) i j (b .first) ij v (λ q. clash (sameLists h i j) e (ap (sameLists h i) (sym q) ∙ f (rw q (member-here j js)))) r)
+              (λ z. f (member-there v j js z)));
           fields = λ c v e1 e2 e3 e4 e5. w .fields c v e1 e2 e3 e4 e5 ∙ field₁ c v e1 e2 e3 e4 e5;
         }
 
@@ -146,6 +152,7 @@ module _ (n : ℕ) (l : List ℤ) (p : ℕ) (new : List ℕ) (cnt base lim i fla
           now = rw (alike-one h j (b .first) rj, e) (w .now);
           chain = rw e (here, rj .below, w .chain);
           next = λ v d f. w .next v (not-here v j js f) (not-there v j js f);
+          keeps = λ v r f. rw (alike-one h j (b .first) rj, e) (w .keeps v r (λ z. f (member-there v j js z)));
           fields = w .fields;
         }
 
@@ -192,6 +199,7 @@ module _ (n : ℕ) (l : List ℤ) (p : ℕ) (new : List ℕ) (cnt base lim i fla
         now = b .now;
         chain = b .link ∙ b .chain;
         next = λ v d f. refl;
+        keeps = λ v r f. r;
         fields = λ c v e1 e2 e3 e4 e5. refl;
       }
   walked once (j ∷ js) zero s h last x log a b = absurd (omega arith)

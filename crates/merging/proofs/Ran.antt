@@ -1,0 +1,130 @@
+-- A bucket in memory: its newest row takes those that have its list, then the next of those that are left, and so on; that is the definition's `mergeAll` of the bucket.
+-- Assumes nothing.
+use Prim.Native.Nat.{_+_, _-_, _<_, _≤_, _^_, suc, zero, ℕ}
+use native.Mathlib.Omega.{arith}
+use mathlib.Core.Bool.{Bool, true, false, not}
+use mathlib.Core.List.{List, [], _∷_, foldl}
+use mathlib.Core.Logic.{_≢_}
+use mathlib.Core.Path.{_∙_, _≡_, ap, refl, subst, subst⁻¹, sym}
+use borrow.Author.Tests.{le-ltb, lt-ltb}
+use lib.Dec.{eqb}
+use lib.IntN.{ℤ}
+use lib.ListN.{length}
+use Rattle.plain.proofs.Logic.{clash}
+use Rattle.plain.proofs.Members.{keep-same, kept-passes, kept-was, member-here, member-there, not-cons, not-here, not-there}
+use Rattle.plain.proofs.Repeats.{distinct-keep}
+use Rattle.plain.specs.Lists.{consIf, keep, member}
+use Rattle.plain.specs.Members.{Distinct, In}
+use Rattle.plain.specs.Turns.{entries}
+use Rattle.cells.proofs.Slices.{plus-sum}
+use Rattle.cells.specs.Layout.{HNEXT, LEN, MERGES, NV, PE, W}
+use Rattle.cells.specs.View.{Room, at, plus, rd}
+use Rattle.definition.specs.Merge.{alike, entriesOf, key, mergeAll, mergeOne, sameLists}
+use Rattle.definition.specs.State.{Graph}
+use Rattle.facts.proofs.Absorbing.{absorbing, fold-chosen}
+use Rattle.merging.specs.Bucketed.{Chain, Now, Row}
+use Rattle.merging.specs.Model.{Comparing, Merging, bucketRun, comparing, flagged, followers, markedList, mergedAt, mergedInto, merging, walked}
+use Rattle.merging.specs.declared.Tally.{Tally}
+use Rattle.merging.proofs.Marks.{held-rest, mark-below, markAll, marking-all, marks, marks-field}
+use Rattle.merging.proofs.Rows.{held, marks-now}
+use Rattle.merging.proofs.Walked.{Behind, Walked, chain-same, oneKey, walked as along}
+use Rattle.merging.proofs.Walks.{run-over}
+
+-- at most as many as before
+keep-fewer : (q : ℕ → Bool) (xs : List ℕ) → length (keep q xs) ≤ length xs
+unfolding keep
+keep-fewer q [] = omega arith
+keep-fewer q (x ∷ xs) = go (q x) (keep-fewer q xs)
+  where
+    go : (b : Bool) → length (keep q xs) ≤ length xs → length (consIf b x (keep q xs)) ≤ suc (length xs)
+    go true h = omega arith
+    go false h = omega arith
+
+module _ (n : ℕ) (l : List ℤ) (p : ℕ) (new : List ℕ) (cnt base lim : ℕ) where
+  -- before a bucket: its rows are vs
+  pub record Ready (s : List ℤ) (h : Graph) (x : ℕ) (vs : List ℕ) (t : Tally) : Type 0 where
+    pub now : Now n l p new cnt base lim s h
+    pub rows : (v : ℕ) → In v vs → Row n p new h v
+    pub distinct : Distinct vs
+    pub chain : Chain n (rd n HNEXT s) x vs
+    pub below : (y : ℕ) → y < n → rd n W s y < t .flag
+    pub room : t .flag + length vs < 2 ^ 63
+
+  -- after it, or a part of it: h is now h′, the flag rose by at most c
+  pub record Left (s : List ℤ) (h : Graph) (vs : List ℕ) (t : Tally) (h′ : Graph) (c : ℕ) (m : Merging) : Type 0 where
+    pub now : Now n l p new cnt base lim (m .mem) h′
+    pub next : (v : ℕ) → member v vs ≡ false → rd n HNEXT (m .mem) v ≡ rd n HNEXT s v
+    pub fields : (c v : ℕ) → eqb NV c ≡ false → eqb LEN c ≡ false → eqb PE c ≡ false → eqb MERGES c ≡ false → eqb HNEXT c ≡ false → eqb W c ≡ false
+        → rd n c (m .mem) v ≡ rd n c s v
+    pub below : (y : ℕ) → y < n → rd n W (m .mem) y < m .tally .flag
+    pub flags : m .tally .flag ≤ t .flag + c
+    pub rises : t .flag ≤ m .tally .flag
+    pub keeps : (v : ℕ) → Row n p new h v → member v vs ≡ false → Row n p new h′ v
+
+  -- one row, and those behind it that are left
+  record Took (s : List ℤ) (h : Graph) (i : ℕ) (js : List ℕ) (t : Tally) (m : Merging) : Type 0 where
+    left : Left s h (i ∷ js) t (foldl (mergeOne oneKey i) h js) 1 m
+    chain : Chain n (rd n HNEXT (m .mem)) (rd n HNEXT (m .mem) i) (keep (λ j. not (sameLists h i j)) js)
+    rows : (v : ℕ) → In v (keep (λ j. not (sameLists h i j)) js) → Row n p new (foldl (mergeOne oneKey i) h js) v
+
+  not-kept : (b : Bool) → not b ≡ true → b ≡ false
+  not-kept true e = sym e
+  not-kept false e = refl
+
+  module _ (once : Distinct new) (k : ℕ) (s : List ℤ) (h : Graph) (x i : ℕ) (js : List ℕ) (t : Tally) (r : Ready s h x (i ∷ js) t) (enough : length js ≤ k) where
+    ri : Row n p new h i
+    ri = r .rows i (member-here i js)
+
+    abbrev sₘ : List ℤ
+    sₘ = markAll n (t .flag) (entriesOf h i) s
+
+    is-marked : markedList l n (t .flag) i s ≡ sₘ
+    unfolding markedList
+    is-marked =
+        marking-all l n (t .flag) (rd n PE s i + 1) (rd n LEN s i - 1) s ∙ ap (λ (xs : List ℕ). markAll n (t .flag) xs s) (held-rest n l s h i (held s h (r .now) i ri))
+
+    behind : Behind n l p new cnt base lim i (t .flag) sₘ h i (rd n HNEXT sₘ i) js
+    behind =
+        record {
+          now = marks-now (t .flag) (entriesOf h i) s h (r .now);
+          first = ri;
+          rows = λ v m. r .rows v (member-there v i js m);
+          distinct = r .distinct .1;
+          other = r .distinct .0;
+          marked = marks n (t .flag) (entriesOf h i) s (r .now .drawn .space .room) (r .below);
+          chain = rw (marks-field n (t .flag) HNEXT refl (entriesOf h i) s i)
+              (chain-same n (rd n HNEXT s) (rd n HNEXT sₘ) js (rd n HNEXT s i) (λ v m. marks-field n (t .flag) HNEXT refl (entriesOf h i) s v) (r .chain .2));
+          small = ri .below;
+          before = r .distinct .0;
+          link = refl;
+        }
+
+    abbrev mᵢ : Comparing
+    mᵢ = followers l n i (t .flag) k (comparing sₘ (record { last = i; next = rd n HNEXT sₘ i; logged = t .logged }))
+
+    w : Walked n l p new cnt base lim i (t .flag) sₘ h i js mᵢ
+    w = along n l p new cnt base lim i (t .flag) once js k sₘ h i (rd n HNEXT sₘ i) (t .logged) enough behind
+
+    is-at : rd n HNEXT s i < n → mergedAt l n k i (merging s t) ≡ flagged (walked (t .flag) mᵢ)
+    unfolding mergedAt mergedInto
+    is-at a = rw (lt-ltb (rd n HNEXT s i) n a, is-marked)
+
+    took-some : rd n HNEXT s i < n → Took s h i js t (mergedAt l n k i (merging s t))
+    took-some a =
+        let f : plus (t .flag) 1 ≡ t .flag + 1 = plus-sum (t .flag) 1 (omega (arith, r .room)) in
+        rw (is-at a)
+        record {
+          left = record {
+            now = w .now;
+            next = λ v e. w .next v (not-here v i js e) (not-there v i js e) ∙ marks-field n (t .flag) HNEXT refl (entriesOf h i) s v;
+            fields = λ c v e1 e2 e3 e4 e5 e6. w .fields c v e1 e2 e3 e4 e5 ∙ marks-field n (t .flag) c e6 (entriesOf h i) s v;
+            below = λ y b. rw (f, w .fields W y refl refl refl refl refl) (mark-below n (t .flag) y b (entriesOf h i) s (r .now .drawn .space .room) (r .below y b));
+            flags = omega (arith, f);
+            rises = omega (arith, f);
+            keeps = λ v q e. w .keeps v q (λ z. clash (member v js) z (not-there v i js e));
+          };
+          chain = w .chain;
+          rows = λ v m.
+              let z : In v js = kept-was v (λ j. not (sameLists h i j)) js m in
+              w .keeps v (r .rows v (member-there v i js z)) (λ _. not-kept (sameLists h i v) (kept-passes v (λ j. not (sameLists h i j)) js m));
+        }
