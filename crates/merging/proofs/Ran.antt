@@ -10,8 +10,8 @@ use borrow.Author.Tests.{le-ltb, lt-ltb}
 use lib.Dec.{eqb}
 use lib.IntN.{ℤ}
 use lib.ListN.{length}
-use Rattle.plain.proofs.Logic.{clash}
-use Rattle.plain.proofs.Members.{keep-same, kept-passes, kept-was, member-here, member-there, not-cons, not-here, not-there}
+use Rattle.plain.proofs.Logic.{clash, either}
+use Rattle.plain.proofs.Members.{keep-same, kept-passes, kept-was, member-here, member-there, no-member, not-cons, not-here, not-there}
 use Rattle.plain.proofs.Repeats.{distinct-keep}
 use Rattle.plain.specs.Lists.{consIf, keep, member}
 use Rattle.plain.specs.Members.{Distinct, In}
@@ -20,7 +20,7 @@ use Rattle.cells.proofs.Slices.{plus-sum}
 use Rattle.cells.specs.Layout.{HNEXT, LEN, MERGES, NV, PE, W}
 use Rattle.cells.specs.View.{Room, at, plus, rd}
 use Rattle.definition.specs.Merge.{alike, entriesOf, key, mergeAll, mergeOne, sameLists}
-use Rattle.definition.specs.State.{Graph}
+use Rattle.definition.specs.State.{Graph, mergeInto}
 use Rattle.facts.proofs.Absorbing.{absorbing, fold-chosen}
 use Rattle.merging.specs.Bucketed.{Chain, Now, Row}
 use Rattle.merging.specs.Model.{Comparing, Merging, bucketRun, comparing, flagged, followers, markedList, mergedAt, mergedInto, merging, walked}
@@ -128,3 +128,123 @@ module _ (n : ℕ) (l : List ℤ) (p : ℕ) (new : List ℕ) (cnt base lim : ℕ
               let z : In v js = kept-was v (λ j. not (sameLists h i j)) js m in
               w .keeps v (r .rows v (member-there v i js z)) (λ _. not-kept (sameLists h i v) (kept-passes v (λ j. not (sameLists h i j)) js m));
         }
+
+  -- nobody is behind it
+  took-none : (k : ℕ) (s : List ℤ) (h : Graph) (x i : ℕ) (t : Tally) → Ready s h x (i ∷ []) t → Took s h i [] t (mergedAt l n k i (merging s t))
+  unfolding mergedAt keep
+  took-none k s h x i t r =
+      rw (le-ltb (rd n HNEXT s i) n (omega (arith, r .chain .2)))
+      record {
+        left = record {
+          now = r .now;
+          next = λ v e. refl;
+          fields = λ c v e1 e2 e3 e4 e5 e6. refl;
+          below = r .below;
+          flags = omega arith;
+          rises = omega arith;
+          keeps = λ v q e. q;
+        };
+        chain = r .chain .2;
+        rows = λ v m. no-member v m;
+      }
+
+  took : Distinct new → (k : ℕ) (s : List ℤ) (h : Graph) (x i : ℕ) (js : List ℕ) (t : Tally) → Ready s h x (i ∷ js) t → length js ≤ k
+      → Took s h i js t (mergedAt l n k i (merging s t))
+  took once k s h x i [] t r e = took-none k s h x i t r
+  took once k s h x i (j ∷ js) t r e = took-some once k s h x i (j ∷ js) t r e (omega (arith, r .chain .2 .0, r .chain .2 .1))
+
+  -- ---- the definition: the first row takes those that have its list, they leave, and the rest is compared
+
+  module _ (s : List ℤ) (h : Graph) (x i : ℕ) (js : List ℕ) (t : Tally) (r : Ready s h x (i ∷ js) t) where
+    alike-one : (j : ℕ) → In j js → alike oneKey h i j ≡ sameLists h i j
+    unfolding alike key
+    alike-one j m = rw (r .rows i (member-here i js) .heavy, r .rows j (member-there j i js m) .heavy)
+
+    split-all : mergeAll oneKey (i ∷ js) h ≡ mergeAll oneKey (keep (λ j. not (sameLists h i j)) js) (foldl (mergeOne oneKey i) h js)
+    split-all =
+        absorbing oneKey i (r .rows i (member-here i js) .below) js h (r .now .sized) (r .distinct .0) (r .distinct .1) (λ v m. r .rows v (member-there v i js m) .below)
+        ∙ ap (λ (xs : List ℕ). mergeAll oneKey xs (foldl (λ b j. mergeInto i j b) h (keep (alike oneKey h i) js)))
+        (keep-same (λ j. not (alike oneKey h i j)) (λ j. not (sameLists h i j)) js (λ j m. ap not (alike-one j m)))
+        ∙ ap (mergeAll oneKey (keep (λ j. not (sameLists h i j)) js))
+        (sym (fold-chosen oneKey i (r .rows i (member-here i js) .below) js h (r .now .sized) (r .distinct .0) (r .distinct .1)))
+
+    rest-fewer : length (keep (λ j. not (sameLists h i j)) js) ≤ length js
+    rest-fewer = keep-fewer (λ j. not (sameLists h i j)) js
+
+    out-of-rest : (v : ℕ) → member v (i ∷ js) ≡ false → member v (keep (λ j. not (sameLists h i j)) js) ≡ false
+    out-of-rest v e =
+        either (member v (keep (λ j. not (sameLists h i j)) js) ≡ false) (member v (keep (λ j. not (sameLists h i j)) js))
+        (λ m. clash (member v js) (kept-was v (λ j. not (sameLists h i j)) js m) (not-there v i js e)) (λ m. m)
+
+    module _ (m : Merging) (k : Took s h i js t m) where
+      again : Ready (m .mem) (foldl (mergeOne oneKey i) h js) (rd n HNEXT (m .mem) i) (keep (λ j. not (sameLists h i j)) js) (m .tally)
+      again =
+          record {
+            now = k .left .now;
+            rows = k .rows;
+            distinct = distinct-keep (λ j. not (sameLists h i j)) js (r .distinct .1);
+            chain = k .chain;
+            below = k .left .below;
+            room = omega (arith, r .room, rest-fewer, k .left .flags);
+          }
+
+      joint : (h₂ : Graph) (m₂ : Merging) → Left (m .mem) (foldl (mergeOne oneKey i) h js) (keep (λ j. not (sameLists h i j)) js) (m .tally) h₂
+          (length (keep (λ j. not (sameLists h i j)) js)) m₂ → Left s h (i ∷ js) t h₂ (length (i ∷ js)) m₂
+      joint h₂ m₂ w =
+          record {
+            now = w .now;
+            next = λ v e. w .next v (out-of-rest v e) ∙ k .left .next v e;
+            fields = λ c v e1 e2 e3 e4 e5 e6. w .fields c v e1 e2 e3 e4 e5 e6 ∙ k .left .fields c v e1 e2 e3 e4 e5 e6;
+            below = w .below;
+            flags = omega (arith, w .flags, k .left .flags, rest-fewer);
+            rises = omega (arith, w .rises, k .left .rises);
+            keeps = λ v q e. w .keeps v (k .left .keeps v q e) (out-of-rest v e);
+          }
+
+  run-one : (k c i : ℕ) (m : Merging) → i < n → bucketRun l n k (suc c) i m ≡ bucketRun l n k c (rd n HNEXT (mergedAt l n k i m .mem) i) (mergedAt l n k i m)
+  unfolding bucketRun
+  run-one k c i m a = rw (lt-ltb i n a)
+
+  none-merged : (h : Graph) → mergeAll oneKey [] h ≡ h
+  unfolding mergeAll
+  none-merged h = refl
+
+  ran-none : (k c : ℕ) (s : List ℤ) (h : Graph) (x : ℕ) (t : Tally) → Ready s h x [] t → Left s h [] t (mergeAll oneKey [] h) 0 (bucketRun l n k c x (merging s t))
+  ran-none k c s h x t r =
+      rw (run-over l n k 0 0 (merging s t) c x (merging s t) (omega (arith, r .chain)), none-merged h)
+      record {
+        now = r .now;
+        next = λ v e. refl;
+        fields = λ c v e1 e2 e3 e4 e5 e6. refl;
+        below = r .below;
+        flags = omega arith;
+        rises = omega arith;
+        keeps = λ v q e. q;
+      }
+
+  -- the buckets of at most c rows
+  abbrev Runs : ℕ → ℕ → Type 0
+  Runs k c = (vs : List ℕ) (s : List ℤ) (h : Graph) (x : ℕ) (t : Tally) → length vs ≤ c → length vs ≤ k → Ready s h x vs t
+      → Left s h vs t (mergeAll oneKey vs h) (length vs) (bucketRun l n k c x (merging s t))
+
+  runs-none : (k : ℕ) → Runs k 0
+  runs-none k [] s h x t a b r = ran-none k 0 s h x t r
+  runs-none k (i ∷ js) s h x t a b r = absurd (omega arith)
+
+  runs-more : Distinct new → (k c : ℕ) → Runs k c → Runs k (suc c)
+  runs-more once k c f [] s h x t a b r = ran-none k (suc c) s h x t r
+  runs-more once k c f (i ∷ js) s h x t a b r =
+      let fewer = rest-fewer s h x i js t r in
+      let w = took once k s h x i js t r (omega arith) in
+      rw (r .chain .0, run-one k c i (merging s t) (r .chain .1), split-all s h x i js t r)
+      (joint s h x i js t r (mergedAt l n k i (merging s t)) w (mergeAll oneKey (keep (λ j. not (sameLists h i j)) js) (foldl (mergeOne oneKey i) h js))
+      (bucketRun l n k c (rd n HNEXT (mergedAt l n k i (merging s t) .mem) i) (mergedAt l n k i (merging s t)))
+      (f (keep (λ j. not (sameLists h i j)) js) (mergedAt l n k i (merging s t) .mem) (foldl (mergeOne oneKey i) h js)
+      (rd n HNEXT (mergedAt l n k i (merging s t) .mem) i) (mergedAt l n k i (merging s t) .tally) (omega arith) (omega arith)
+      (again s h x i js t r (mergedAt l n k i (merging s t)) w)))
+
+  -- K-b in memory: the bucket
+  pub ran : Distinct new → (k c : ℕ) (vs : List ℕ) (s : List ℤ) (h : Graph) (x : ℕ) (t : Tally) → length vs ≤ c → length vs ≤ k → Ready s h x vs t
+      → Left s h vs t (mergeAll oneKey vs h) (length vs) (bucketRun l n k c x (merging s t))
+  ran once k zero = runs-none k
+  ran once k (suc c) = runs-more once k c (ran once k c)
