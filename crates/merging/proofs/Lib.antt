@@ -6,3 +6,4 @@ pub mod Joins
 pub mod Rows
 pub mod Walked
 pub mod Ran
+pub mod Emptied
