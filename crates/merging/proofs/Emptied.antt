@@ -197,3 +197,115 @@ module _ (n : ℕ) (l : List ℤ) (p : ℕ) (new : List ℕ) (cnt base lim : ℕ
             flags = omega (arith, w .flags, r .flags);
             seen = done-more ks (λ x q. q) (λ _. rw is z);
           }
+
+      in-bucket : (x y : ℕ) → In y (bucketOf place vs x) → In y vs
+      unfolding bucketOf
+      in-bucket x y m = kept-was y (λ z. eqb (place z) x) vs m
+
+      of-bucket : (x y : ℕ) → In y (bucketOf place vs x) → place y ≡ x
+      unfolding bucketOf
+      of-bucket x y m = eqb-true (place y) x (kept-passes y (λ z. eqb (place z) x) vs m)
+
+      off-bucket : (y : ℕ) → place y ≢ κ → member y (bucketOf place vs κ) ≡ false
+      unfolding bucketOf
+      off-bucket y d = not-kept-at y (λ z. eqb (place z) κ) vs (ne-eqb (place y) κ d)
+
+      bucket-distinct : Distinct (bucketOf place vs κ)
+      unfolding bucketOf
+      bucket-distinct = distinct-keep (λ z. eqb (place z) κ) vs dv
+
+      bucket-length : length (bucketOf place vs κ) ≤ length vs
+      unfolding bucketOf
+      bucket-length = length-keep (λ z. eqb (place z) κ) vs
+
+      more-after : after (ks ++ (κ ∷ [])) ≡ mergeAll oneKey (bucketOf place vs κ) (after ks)
+      unfolding mergeBuckets
+      more-after = foldl-append (λ h x. mergeAll oneKey (bucketOf place vs x) h) g ks (κ ∷ [])
+
+      still-in : (x : ℕ) → In x ks → In x (ks ++ (κ ∷ []))
+      still-in x z = member-append x ks (κ ∷ []) ∙ rw z
+
+      not-this : (x : ℕ) → member x (ks ++ (κ ∷ [])) ≡ false → x ≢ κ
+      not-this x e q = clash (member x (ks ++ (κ ∷ []))) (rw q (member-last κ ks)) e
+
+      -- its bucket is new
+      fresh : member κ ks ≡ false → Through (ks ++ (κ ∷ [])) (v ∷ done) m₁
+      fresh z =
+          let w = ran n l p new cnt base lim distinct k k (bucketOf place vs κ) s₁ (after ks) (rd n HHEAD s κ) t (omega (arith, bucket-length)) (omega (arith, bucket-length))
+              (ready (bucketOf place vs κ) (λ x m. r .rows x (in-bucket κ x m) (ap (λ (y : ℕ). member y ks) (of-bucket κ x m) ∙ z)) bucket-distinct (r .heads κ hκ z) bucket-length) in
+          record {
+            now = rw more-after (w .now);
+            once = distinct-snoc κ ks (r .once) z;
+            gone = λ x b e. w .fields HHEAD x refl refl refl refl refl refl ∙ head-gone x (same? x κ) (λ d. r .gone x b (sym (member-end x κ ks d) ∙ e));
+            heads = λ x b e.
+                let d : x ≢ κ = not-this x e in
+                rw (w .fields HHEAD x refl refl refl refl refl refl, head-other x d)
+                (chain-same n (rd n HNEXT s) (rd n HNEXT (m₁ .mem)) (bucketOf place vs x) (rd n HHEAD s x)
+                (λ y m. w .next y (off-bucket y (λ q. d (sym (of-bucket x y m) ∙ q))) ∙ rd-up-field n HHEAD HNEXT s κ n y refl) (r .heads x b (sym (member-end x κ ks d) ∙ e)));
+            keys = λ x m. w .fields HKEY x refl refl refl refl refl refl ∙ rd-up-field n HHEAD HKEY s κ n x refl ∙ r .keys x m;
+            rows = λ x m e.
+                let d : place x ≢ κ = not-this (place x) e in
+                rw more-after (w .keeps x (r .rows x m (sym (member-end (place x) κ ks d) ∙ e)) (off-bucket x d));
+            light = λ x e. rw more-after (light-all x (bucketOf place vs κ) (after ks) (r .light x e));
+            below = w .below;
+            flags = omega (arith, w .flags, r .flags, counted-more place vs ks κ z);
+            seen = done-more (ks ++ (κ ∷ [])) still-in (λ _. rw is (member-last κ ks));
+          }
+
+  -- some buckets are through
+  pub record Passing (done : List ℕ) (m : Merging) : Type 0 where
+    pub keys : List ℕ
+    pub through : Through keys done m
+
+  module _ (distinct : Distinct new) (dv : Distinct vs) (k : ℕ) (enough : length vs ≤ k) (small : flag₀ + length vs + length vs < 2 ^ 63)
+      (inside : (v : ℕ) → In v new → v < n) (out : (v : ℕ) → In v new → hasWeight g v ≡ true → In v vs) (placed : (v : ℕ) → In v vs → place v < n) where
+    module _ (ks done : List ℕ) (s : List ℤ) (t : Tally) (r : Through ks done (merging s t)) (v : ℕ) (mv : In v new) where
+      weighs : rd n NV s v ≡ weight (after ks) v
+      weighs = r .now .drawn .weights v (inside v mv)
+
+      compared : hasWeight (after ks) v ≡ true → In v vs
+      compared e = either (In v vs) (hasWeight g v) (λ a. out v mv a) (λ a. clash (hasWeight (after ks) v) e (r .light v a))
+
+      is-key : hasWeight (after ks) v ≡ true → mergedOf l n k v (merging s t) ≡ bucketRun l n k k (rd n HHEAD s (place v)) (merging (up n HHEAD s (place v) n) t)
+      unfolding mergedOf mergedKey
+      is-key e = rw (weighs, e, r .keys v (compared e))
+
+      is-none : hasWeight (after ks) v ≡ false → mergedOf l n k v (merging s t) ≡ merging s t
+      unfolding mergedOf
+      is-none e = rw (weighs, e)
+
+      one : Passing (v ∷ done) (mergedOf l n k v (merging s t))
+      one =
+          either (Passing (v ∷ done) (mergedOf l n k v (merging s t))) (hasWeight (after ks) v)
+          (λ e.
+          rw (is-key e)
+          (either (Passing (v ∷ done) (bucketRun l n k k (rd n HHEAD s (place v)) (merging (up n HHEAD s (place v) n) t))) (member (place v) ks)
+          (λ z. record { keys = ks; through = old distinct dv k enough small ks done s t r v (place v) (placed v (compared e)) refl z })
+          (λ z. record { keys = ks ++ (place v ∷ []); through = fresh distinct dv k enough small ks done s t r v (place v) (placed v (compared e)) refl z })))
+          (λ e.
+          rw (is-none e)
+          record {
+            keys = ks;
+            through = skipped distinct dv k enough small ks done s t r v
+                (λ z. either (In (place v) ks) (member (place v) ks) (λ a. a) (λ a. clash (hasWeight (after ks) v) (r .rows v z a .heavy) e));
+          })
+
+    record Ended (xs done : List ℕ) (m : Merging) : Type 0 where
+      keys : List ℕ
+      rows : List ℕ
+      through : Through keys rows m
+      all : (x : ℕ) → In x xs → In x rows
+      more : (x : ℕ) → In x done → In x rows
+
+    every-row : (xs ks done : List ℕ) (m : Merging) → Through ks done m → ((x : ℕ) → In x xs → In x new) → Ended xs done (foldl (λ a x. mergedOf l n k x a) m xs)
+    every-row [] ks done m r f = record { keys = ks; rows = done; through = r; all = λ x z. no-member x z; more = λ x z. z }
+    every-row (v ∷ xs) ks done m r f =
+        let a = one ks done (m .mem) (m .tally) r v (f v (member-here v xs)) in
+        let e = every-row xs (a .keys) (v ∷ done) (mergedOf l n k v m) (a .through) (λ x z. f x (member-there x v xs z)) in
+        record {
+          keys = e .keys;
+          rows = e .rows;
+          through = e .through;
+          all = λ x z. member-cases (In x (e .rows)) x v xs z (λ q. rw q (e .more v (member-here v done))) (λ _ y. e .all x y);
+          more = λ x z. e .more x (member-there x v done z);
+        }
