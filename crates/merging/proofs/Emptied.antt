@@ -61,7 +61,7 @@ light-all v (i ∷ js) h e = light-all v js (foldl (mergeOne oneKey i) h js) (li
 
 -- ---- how many rows have a key of the list
 
-abbrev counted : (ℕ → ℕ) → List ℕ → ℕ → ℕ
+abbrev pub counted : (ℕ → ℕ) → List ℕ → ℕ → ℕ
 counted place ks v = cond (member (place v) ks) 1 0
 
 member-end : (x κ : ℕ) (ks : List ℕ) → x ≢ κ → member x (ks ++ (κ ∷ [])) ≡ member x ks
@@ -95,7 +95,7 @@ counted-more place vs ks κ e =
     one v (inl q) = rw (q, e, eq-eqb κ κ refl, member-last κ ks) (omega arith)
     one v (inr q) = rw (ne-eqb (place v) κ q, member-end (place v) κ ks q) (omega arith)
 
-counted-all : (place : ℕ → ℕ) (vs ks : List ℕ) → total (counted place ks) vs ≤ length vs
+pub counted-all : (place : ℕ → ℕ) (vs ks : List ℕ) → total (counted place ks) vs ≤ length vs
 counted-all place vs ks =
     let a = total-ones vs in
     let b = total-below (counted place ks) (λ v. 1) vs (λ v m. cond-has (λ (x : ℕ). x ≤ 1) (member (place v) ks) (λ _. omega arith) (λ _. omega arith)) in
@@ -180,7 +180,7 @@ module _ (n : ℕ) (l : List ℤ) (p : ℕ) (new : List ℕ) (cnt base lim : ℕ
       unfolding mergeAll
       old z =
           let w = ran n l p new cnt base lim distinct k k [] s₁ (after ks) (rd n HHEAD s κ) t (omega arith) (omega arith)
-              (ready [] (λ x m. no-member x m) tt (r .gone κ hκ z) (omega arith)) in
+          (ready [] (λ x m. no-member x m) tt (r .gone κ hκ z) (omega arith)) in
           record {
             now = w .now;
             once = r .once;
@@ -232,7 +232,7 @@ module _ (n : ℕ) (l : List ℤ) (p : ℕ) (new : List ℕ) (cnt base lim : ℕ
       fresh : member κ ks ≡ false → Through (ks ++ (κ ∷ [])) (v ∷ done) m₁
       fresh z =
           let w = ran n l p new cnt base lim distinct k k (bucketOf place vs κ) s₁ (after ks) (rd n HHEAD s κ) t (omega (arith, bucket-length)) (omega (arith, bucket-length))
-              (ready (bucketOf place vs κ) (λ x m. r .rows x (in-bucket κ x m) (ap (λ (y : ℕ). member y ks) (of-bucket κ x m) ∙ z)) bucket-distinct (r .heads κ hκ z) bucket-length) in
+          (ready (bucketOf place vs κ) (λ x m. r .rows x (in-bucket κ x m) (ap (λ (y : ℕ). member y ks) (of-bucket κ x m) ∙ z)) bucket-distinct (r .heads κ hκ z) bucket-length) in
           record {
             now = rw more-after (w .now);
             once = distinct-snoc κ ks (r .once) z;
@@ -290,14 +290,14 @@ module _ (n : ℕ) (l : List ℤ) (p : ℕ) (new : List ℕ) (cnt base lim : ℕ
                 (λ z. either (In (place v) ks) (member (place v) ks) (λ a. a) (λ a. clash (hasWeight (after ks) v) (r .rows v z a .heavy) e));
           })
 
-    record Ended (xs done : List ℕ) (m : Merging) : Type 0 where
-      keys : List ℕ
-      rows : List ℕ
-      through : Through keys rows m
-      all : (x : ℕ) → In x xs → In x rows
-      more : (x : ℕ) → In x done → In x rows
+    pub record Ended (xs done : List ℕ) (m : Merging) : Type 0 where
+      pub keys : List ℕ
+      pub rows : List ℕ
+      pub through : Through keys rows m
+      pub all : (x : ℕ) → In x xs → In x rows
+      pub more : (x : ℕ) → In x done → In x rows
 
-    every-row : (xs ks done : List ℕ) (m : Merging) → Through ks done m → ((x : ℕ) → In x xs → In x new) → Ended xs done (foldl (λ a x. mergedOf l n k x a) m xs)
+    pub every-row : (xs ks done : List ℕ) (m : Merging) → Through ks done m → ((x : ℕ) → In x xs → In x new) → Ended xs done (foldl (λ a x. mergedOf l n k x a) m xs)
     every-row [] ks done m r f = record { keys = ks; rows = done; through = r; all = λ x z. no-member x z; more = λ x z. z }
     every-row (v ∷ xs) ks done m r f =
         let a = one ks done (m .mem) (m .tally) r v (f v (member-here v xs)) in

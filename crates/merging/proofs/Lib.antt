@@ -7,3 +7,4 @@ pub mod Rows
 pub mod Walked
 pub mod Ran
 pub mod Emptied
+pub mod Theorem
