@@ -3,6 +3,7 @@ pub mod Steps
 pub mod Walks
 pub mod Marks
 pub mod Joins
+pub mod Logs
 pub mod Rows
 pub mod Walked
 pub mod Ran
