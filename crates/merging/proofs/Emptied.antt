@@ -110,7 +110,7 @@ module _ (n : ℕ) (l : List ℤ) (p : ℕ) (new : List ℕ) (cnt base lim : ℕ
 
   -- the buckets of ks are through, and they are those of the rows of done
   pub record Through (ks done : List ℕ) (m : Merging) : Type 0 where
-    pub now : Now n l p new cnt base lim (m .mem) (mergeBuckets oneKey place vs ks g)
+    pub now : Now n l p new cnt base lim (m .mem) (mergeBuckets oneKey place vs ks g) (m .tally .logged)
     pub once : Distinct ks
     pub gone : (κ : ℕ) → κ < n → member κ ks ≡ true → rd n HHEAD (m .mem) κ ≡ n
     pub heads : (κ : ℕ) → κ < n → member κ ks ≡ false → Chain n (rd n HNEXT (m .mem)) (rd n HHEAD (m .mem) κ) (bucketOf place vs κ)
@@ -157,7 +157,7 @@ module _ (n : ℕ) (l : List ℤ) (p : ℕ) (new : List ℕ) (cnt base lim : ℕ
           → Ready n l p new cnt base lim s₁ (after ks) (rd n HHEAD s κ) xs t
       ready xs f d c e =
           record {
-            now = field-now s (after ks) (r .now) HHEAD κ n refl refl refl refl refl refl refl;
+            now = field-now s (after ks) (r .now) HHEAD κ n refl refl refl refl refl refl refl refl;
             rows = f;
             distinct = d;
             chain = chain-same n (rd n HNEXT s) (rd n HNEXT s₁) xs (rd n HHEAD s κ) (λ x m. rd-up-field n HHEAD HNEXT s κ n x refl) c;

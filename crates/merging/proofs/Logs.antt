@@ -46,7 +46,7 @@ logged-field n s g ms c a v e k =
 -- ---- one more at the end
 
 module _ (j : ℕ) where
-  len-more : (ms : List ℕ) → length (ms ++ (j ∷ [])) ≡ suc (length ms)
+  pub len-more : (ms : List ℕ) → length (ms ++ (j ∷ [])) ≡ suc (length ms)
   len-more [] = refl
   len-more (m ∷ ms) = ap suc (len-more ms)
 

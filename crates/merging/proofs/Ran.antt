@@ -43,7 +43,7 @@ keep-fewer q (x ∷ xs) = go (q x) (keep-fewer q xs)
 module _ (n : ℕ) (l : List ℤ) (p : ℕ) (new : List ℕ) (cnt base lim : ℕ) where
   -- before a bucket: its rows are vs
   pub record Ready (s : List ℤ) (h : Graph) (x : ℕ) (vs : List ℕ) (t : Tally) : Type 0 where
-    pub now : Now n l p new cnt base lim s h
+    pub now : Now n l p new cnt base lim s h (t .logged)
     pub rows : (v : ℕ) → In v vs → Row n p new h v
     pub distinct : Distinct vs
     pub chain : Chain n (rd n HNEXT s) x vs
@@ -52,7 +52,7 @@ module _ (n : ℕ) (l : List ℤ) (p : ℕ) (new : List ℕ) (cnt base lim : ℕ
 
   -- after it, or a part of it: h is now h′, the flag rose by at most c
   pub record Left (s : List ℤ) (h : Graph) (vs : List ℕ) (t : Tally) (h′ : Graph) (c : ℕ) (m : Merging) : Type 0 where
-    pub now : Now n l p new cnt base lim (m .mem) h′
+    pub now : Now n l p new cnt base lim (m .mem) h′ (m .tally .logged)
     pub next : (v : ℕ) → member v vs ≡ false → rd n HNEXT (m .mem) v ≡ rd n HNEXT s v
     pub fields : (c v : ℕ) → eqb NV c ≡ false → eqb LEN c ≡ false → eqb PE c ≡ false → eqb MERGES c ≡ false → eqb HNEXT c ≡ false → eqb W c ≡ false
         → rd n c (m .mem) v ≡ rd n c s v
@@ -83,7 +83,7 @@ module _ (n : ℕ) (l : List ℤ) (p : ℕ) (new : List ℕ) (cnt base lim : ℕ
     is-marked =
         marking-all l n (t .flag) (rd n PE s i + 1) (rd n LEN s i - 1) s ∙ ap (λ (xs : List ℕ). markAll n (t .flag) xs s) (held-rest n l s h i (held s h (r .now) i ri))
 
-    behind : Behind n l p new cnt base lim i (t .flag) sₘ h i (rd n HNEXT sₘ i) js
+    behind : Behind n l p new cnt base lim i (t .flag) sₘ h i (rd n HNEXT sₘ i) (t .logged) js
     behind =
         record {
           now = marks-now (t .flag) (entriesOf h i) s h (r .now);

@@ -3,9 +3,9 @@
 use Prim.Native.Nat.{_+_, _<_, _^_, ℕ}
 use native.Mathlib.Omega.{arith}
 use mathlib.Core.Bool.{Bool, true, false}
-use mathlib.Core.List.{List, [], _∷_, foldl}
+use mathlib.Core.List.{List, [], _∷_, _++_, foldl}
 use mathlib.Core.Logic.{_≢_, _⊎_, inl, inr}
-use mathlib.Core.Path.{_∙_, _≡_, ap, refl, sym}
+use mathlib.Core.Path.{_∙_, _≡_, ap, refl, subst⁻¹, sym}
 use borrow.Author.Tests.{lt-ltb, ltb-true}
 use lib.Dec.{eqb, ltb}
 use lib.IntN.{ℤ}
@@ -16,12 +16,13 @@ use Rattle.plain.specs.Lists.{isNone, member, total}
 use Rattle.plain.specs.Members.{Distinct, In}
 use Rattle.plain.specs.Turns.{upd}
 use Rattle.cells.proofs.Laws.{parent-up-field, rd-up-field}
-use Rattle.cells.proofs.Slices.{same?}
-use Rattle.cells.specs.Layout.{DEGREE, ELEN, LEN, NV, ORD, PE, W, WANT}
-use Rattle.cells.specs.View.{Room, rd, up}
+use Rattle.cells.proofs.Slices.{plus-sum, same?}
+use Rattle.cells.specs.Layout.{DEGREE, ELEN, LEN, MERGES, NV, ORD, PE, W, WANT}
+use Rattle.cells.specs.View.{Room, plus, rd, up}
 use Rattle.definition.specs.Merge.{entriesOf}
-use Rattle.definition.specs.State.{Graph, hasWeight, isVariable, mergeInto, putKind, putParent, putReps, putWeight, weight}
+use Rattle.definition.specs.State.{Graph, Kind, dense, element, hasWeight, isMerged, isVariable, kind, mergeInto, merged, variable, putKind, putParent, putReps, putWeight, weight}
 use Rattle.drawn.specs.Drawn.{Drawn, listOf}
+use Rattle.drawn.specs.Log.{Logged}
 use Rattle.facts.proofs.Merging.{kind-kept, parent-kept, part-moved, weight-into, weight-kept}
 use Rattle.facts.proofs.Sizes.{sized-mergeInto}
 use Rattle.facts.specs.Invariant.{Sized}
@@ -29,6 +30,7 @@ use Rattle.packed.proofs.Spaces.{space-field}
 use Rattle.merging.specs.Bucketed.{Now, Row}
 use Rattle.merging.specs.Model.{joined}
 use Rattle.merging.proofs.Joins.{join-drawn}
+use Rattle.merging.proofs.Logs.{len-more, log-short, logged-field, logged-join}
 use Rattle.merging.proofs.Marks.{Held}
 
 -- ---- a row after a merge
@@ -56,7 +58,13 @@ module _ {n p : ℕ} {new : List ℕ} (h : Graph) (sized : Sized n h) (i j : ℕ
 
 -- ---- what the memory holds
 
-module _ {n : ℕ} {l : List ℤ} {p : ℕ} {new : List ℕ} {cnt base lim : ℕ} (s : List ℤ) (h : Graph) (k : Now n l p new cnt base lim s h) where
+variable-stays : (c : Kind) → isVariable c ≡ true → isMerged c ≡ false
+variable-stays variable e = refl
+variable-stays merged e = sym e
+variable-stays element e = refl
+variable-stays dense e = refl
+
+module _ {n : ℕ} {l : List ℤ} {p : ℕ} {new : List ℕ} {cnt base lim log : ℕ} (s : List ℤ) (h : Graph) (k : Now n l p new cnt base lim s h log) where
   pub held : (v : ℕ) → Row n p new h v → Held n l s h v
   unfolding listOf
   held v r =
@@ -79,20 +87,32 @@ module _ {n : ℕ} {l : List ℤ} {p : ℕ} {new : List ℕ} {cnt base lim : ℕ
             (λ _ f. member-cases (In x new) x j [] f (λ q. rw q (rj .inside)) (λ _ z. no-member x z))),
       )
 
+  unmerged : (v : ℕ) → Row n p new h v → isMerged (kind h v) ≡ false
+  unmerged v r = variable-stays (kind h v) (r .is)
+
   -- a merge
-  pub join-now : (i j log : ℕ) → Row n p new h i → Row n p new h j → i ≢ j → Distinct new → Now n l p new cnt base lim (joined n s i j log) (mergeInto i j h)
-  join-now i j log ri rj d e =
+  pub join-now : (i j : ℕ) → Row n p new h i → Row n p new h j → i ≢ j → Distinct new → Now n l p new cnt base lim (joined n s i j log) (mergeInto i j h) (plus log 1)
+  join-now i j ri rj d e =
+      let room : Room n s = k .drawn .space .room in
+      let ni = unmerged i ri in
+      let nj = unmerged j rj in
+      let short = log-short n s h (k .ms) (k .logged) room (k .sized) i j (ri .below) (rj .below) d ni nj in
       record {
         drawn = join-drawn l s h p new cnt base lim (k .drawn) (k .sized) i j log (ri .below) (rj .below) d (rj .other) (ri .inside) (rj .inside) (ri .heavy)
             (both-weights i j ri rj d e);
         sized = sized-mergeInto i j h (k .sized);
         light = rw (part-moved (λ v. true) i j h new (k .sized) (ri .below) (rj .below) d refl e (ri .inside) (rj .inside)) (k .light);
+        small = k .small;
+        ms = k .ms ++ (j ∷ []);
+        logged = subst⁻¹ (λ (z : ℕ). Logged n (joined n s i j z) (mergeInto i j h) (k .ms ++ (j ∷ []))) (k .count)
+            (logged-join n s h (k .ms) (k .logged) room (k .sized) i j (ri .below) (rj .below) d ni nj);
+        count = plus-sum log 1 (omega (arith, k .count, k .small)) ∙ omega (arith, k .count, len-more j (k .ms));
       }
 
   -- a store in a field of the buckets or of the marks
   pub field-now : (c a v : ℕ) → eqb c PE ≡ false → eqb c LEN ≡ false → eqb c ORD ≡ false → eqb c NV ≡ false → eqb c WANT ≡ false → eqb c ELEN ≡ false
-      → eqb c DEGREE ≡ false → Now n l p new cnt base lim (up n c s a v) h
-  field-now c a v e1 e2 e3 e4 e5 e6 e7 =
+      → eqb c DEGREE ≡ false → eqb c MERGES ≡ false → Now n l p new cnt base lim (up n c s a v) h log
+  field-now c a v e1 e2 e3 e4 e5 e6 e7 e8 =
       let d = k .drawn in
       record {
         drawn = record {
@@ -105,10 +125,14 @@ module _ {n : ℕ} {l : List ℤ} {p : ℕ} {new : List ℕ} {cnt base lim : ℕ
         };
         sized = k .sized;
         light = k .light;
+        small = k .small;
+        ms = k .ms;
+        logged = logged-field n s h (k .ms) c a v e8 (k .logged);
+        count = k .count;
       }
 
 -- many marks
-pub marks-now : {n : ℕ} {l : List ℤ} {p : ℕ} {new : List ℕ} {cnt base lim : ℕ} (flag : ℕ) (xs : List ℕ) (s : List ℤ) (h : Graph)
-    → Now n l p new cnt base lim s h → Now n l p new cnt base lim (foldl (λ m x. up n W m x flag) s xs) h
+pub marks-now : {n : ℕ} {l : List ℤ} {p : ℕ} {new : List ℕ} {cnt base lim log : ℕ} (flag : ℕ) (xs : List ℕ) (s : List ℤ) (h : Graph)
+    → Now n l p new cnt base lim s h log → Now n l p new cnt base lim (foldl (λ m x. up n W m x flag) s xs) h log
 marks-now flag [] s h k = k
-marks-now {n} flag (x ∷ xs) s h k = marks-now flag xs (up n W s x flag) h (field-now s h k W x flag refl refl refl refl refl refl refl)
+marks-now {n} flag (x ∷ xs) s h k = marks-now flag xs (up n W s x flag) h (field-now s h k W x flag refl refl refl refl refl refl refl refl)

@@ -24,6 +24,7 @@ use Rattle.cells.specs.View.{at, rd}
 use Rattle.definition.specs.Merge.{key, mergedAlike}
 use Rattle.definition.specs.State.{Graph, hasWeight, weight}
 use Rattle.drawn.specs.Drawn.{Within}
+use Rattle.drawn.specs.Log.{Logged}
 use Rattle.facts.proofs.Buckets.{merged-buckets}
 use Rattle.facts.specs.Classes.{bucketOf, mergeBuckets, newestFirst}
 use Rattle.facts.specs.Invariant.{Sized}
@@ -67,9 +68,12 @@ pub record Merged (n : ℕ) (l : List ℤ) (p : ℕ) (new : List ℕ) (cnt base 
   pub heads : (κ : ℕ) → κ < n → rd n HHEAD (m .mem) κ ≡ n
   pub below : (y : ℕ) → y < n → rd n W (m .mem) y < m .tally .flag
   pub flags : m .tally .flag ≤ flag + c
+  pub ms : List ℕ
+  pub logged : Logged n (m .mem) h ms
+  pub count : m .tally .logged ≡ length ms
 
 -- what step 5 asks for
-pub record Given (n : ℕ) (l s : List ℤ) (keyOf : ℕ → ℕ) (g : Graph) (p : ℕ) (new : List ℕ) (cnt base lim flag : ℕ) : Type 0 where
+pub record Given (n : ℕ) (l s : List ℤ) (keyOf : ℕ → ℕ) (g : Graph) (p : ℕ) (new : List ℕ) (cnt base lim : ℕ) (t : Tally) : Type 0 where
   pub drawn : Within n l s g p new cnt base lim
   pub sized : Sized n g
   pub light : total (weight g) new < 2 ^ 63
@@ -77,15 +81,19 @@ pub record Given (n : ℕ) (l s : List ℤ) (keyOf : ℕ → ℕ) (g : Graph) (p
   pub inside : (v : ℕ) → In v new → v < n
   pub rows : (v : ℕ) → In v new → hasWeight g v ≡ true → Row n p new g v
   pub bucketed : Bucketed n s keyOf g new
-  pub below : (y : ℕ) → y < n → rd n W s y < flag
-  pub room : flag + length new + length new < 2 ^ 63
+  pub below : (y : ℕ) → y < n → rd n W s y < t .flag
+  pub small : n < 2 ^ 63
+  pub ms : List ℕ
+  pub logged : Logged n s g ms
+  pub count : t .logged ≡ length ms
+  pub room : t .flag + length new + length new < 2 ^ 63
 
 -- a bucket whose key is through
 no-bucket : (n : ℕ) (nx : ℕ → ℕ) (x : ℕ) (xs : List ℕ) → ((v : ℕ) → In v xs → ⊥) → Chain n nx x xs → x ≡ n
 no-bucket n nx x [] f c = c
 no-bucket n nx x (y ∷ ys) f c = absurd (f y (member-here y ys))
 
-module _ (n : ℕ) (l s : List ℤ) (keyOf : ℕ → ℕ) (g : Graph) (p : ℕ) (new : List ℕ) (cnt base lim : ℕ) (t : Tally) (a : Given n l s keyOf g p new cnt base lim (t .flag))
+module _ (n : ℕ) (l s : List ℤ) (keyOf : ℕ → ℕ) (g : Graph) (p : ℕ) (new : List ℕ) (cnt base lim : ℕ) (t : Tally) (a : Given n l s keyOf g p new cnt base lim t)
     (from k : ℕ) (list : entries (at l) from k ≡ new) where
   abbrev vs : List ℕ
   vs = newestFirst g new
@@ -100,7 +108,7 @@ module _ (n : ℕ) (l s : List ℤ) (keyOf : ℕ → ℕ) (g : Graph) (p : ℕ) 
   unfolding mergeBuckets
   start =
       record {
-        now = record { drawn = a .drawn; sized = a .sized; light = a .light };
+        now = record { drawn = a .drawn; sized = a .sized; light = a .light; small = a .small; ms = a .ms; logged = a .logged; count = a .count };
         once = tt;
         gone = λ κ b e. no-member κ e;
         heads = λ κ b e. a .bucketed .bucket κ b;
@@ -135,6 +143,9 @@ module _ (n : ℕ) (l s : List ℤ) (keyOf : ℕ → ℕ) (g : Graph) (p : ℕ) 
           heads = λ κ b.
               either (rd n HHEAD (m .mem) κ ≡ n) (member κ ks) (λ e. r .gone κ b e)
               (λ e. no-bucket n (rd n HNEXT (m .mem)) (rd n HHEAD (m .mem) κ) (bucketOf (key keyOf g) (newestFirst g new) κ) (empty κ e) (r .heads κ b e));
+          ms = r .now .ms;
+          logged = subst (λ (h : Graph). Logged n (m .mem) h (r .now .ms)) same (r .now .logged);
+          count = r .now .count;
           below = r .below;
           flags = omega (arith, r .flags, counted-all (key keyOf g) (newestFirst g new) ks);
         }

@@ -41,7 +41,7 @@ chain-same n f g (y ∷ ys) x e c =
 module _ (n : ℕ) (l : List ℤ) (p : ℕ) (new : List ℕ) (cnt base lim i flag : ℕ) where
   -- what the walk along js, behind `last`, leaves of s and h
   pub record Walked (s : List ℤ) (h : Graph) (last : ℕ) (js : List ℕ) (m : Comparing) : Type 0 where
-    pub now : Now n l p new cnt base lim (m .mem) (foldl (mergeOne oneKey i) h js)
+    pub now : Now n l p new cnt base lim (m .mem) (foldl (mergeOne oneKey i) h js) (m .walk .logged)
     pub chain : Chain n (rd n HNEXT (m .mem)) (rd n HNEXT (m .mem) last) (keep (λ j. not (sameLists h i j)) js)
     pub next : (v : ℕ) → v ≢ last → member v js ≡ false → rd n HNEXT (m .mem) v ≡ rd n HNEXT s v
     pub keeps : (v : ℕ) → Row n p new h v → (In v js → sameLists h i v ≡ false) → Row n p new (foldl (mergeOne oneKey i) h js) v
@@ -52,8 +52,8 @@ module _ (n : ℕ) (l : List ℤ) (p : ℕ) (new : List ℕ) (cnt base lim i fla
   alike-one h j ri rj = rw (ri .heavy, rj .heavy)
 
   -- before the walk
-  pub record Behind (s : List ℤ) (h : Graph) (last x : ℕ) (js : List ℕ) : Type 0 where
-    pub now : Now n l p new cnt base lim s h
+  pub record Behind (s : List ℤ) (h : Graph) (last x log : ℕ) (js : List ℕ) : Type 0 where
+    pub now : Now n l p new cnt base lim s h log
     pub first : Row n p new h i
     pub rows : (v : ℕ) → In v js → Row n p new h v
     pub distinct : Distinct js
@@ -64,7 +64,7 @@ module _ (n : ℕ) (l : List ℤ) (p : ℕ) (new : List ℕ) (cnt base lim i fla
     pub before : member last js ≡ false
     pub link : rd n HNEXT s last ≡ x
 
-  module _ (s : List ℤ) (h : Graph) (last x j : ℕ) (js : List ℕ) (log : ℕ) (once : Distinct new) (b : Behind s h last x (j ∷ js)) where
+  module _ (s : List ℤ) (h : Graph) (last x j : ℕ) (js : List ℕ) (log : ℕ) (once : Distinct new) (b : Behind s h last x log (j ∷ js)) where
     ij : i ≢ j
     ij = not-here i j js (b .other)
 
@@ -93,12 +93,12 @@ module _ (n : ℕ) (l : List ℤ) (p : ℕ) (new : List ℕ) (cnt base lim i fla
         z ∙ join-field n s i j log room (b .first .below) (rj .below) ij HNEXT v refl refl refl refl
 
     -- j is taken
-    taken-behind : Behind s₁ (mergeInto i j h) last (rd n HNEXT s j) js
+    taken-behind : Behind s₁ (mergeInto i j h) last (rd n HNEXT s j) (plus log 1) js
     unfolding mergeInto putKind putReps putParent putWeight
     taken-behind =
         record {
-          now = field-now (joined n s i j log) (mergeInto i j h) (join-now s h (b .now) i j log (b .first) rj ij once) HNEXT last (rd n HNEXT s j)
-              refl refl refl refl refl refl refl;
+          now = field-now (joined n s i j log) (mergeInto i j h) (join-now s h (b .now) i j (b .first) rj ij once) HNEXT last (rd n HNEXT s j)
+              refl refl refl refl refl refl refl refl;
           first = row-kept h (b .now .sized) i j (b .first) ij i ij (b .first);
           rows = λ v m. row-kept h (b .now .sized) i j (b .first) ij v (λ e. apart j v js (b .distinct .0) m (sym e)) (b .rows v (member-there v j js m));
           distinct = b .distinct .1;
@@ -128,7 +128,7 @@ module _ (n : ℕ) (l : List ℤ) (p : ℕ) (new : List ℕ) (cnt base lim i fla
         }
 
     -- j is passed by
-    passed-behind : Behind s h j (rd n HNEXT s j) js
+    passed-behind : Behind s h j (rd n HNEXT s j) log js
     passed-behind =
         record {
           now = b .now;
@@ -181,19 +181,22 @@ module _ (n : ℕ) (l : List ℤ) (p : ℕ) (new : List ℕ) (cnt base lim i fla
     unfolding compared passedNext
     to-passed e = rw (is-alike, e)
 
-    step : (k : ℕ) → (Behind s₁ (mergeInto i j h) last (rd n HNEXT s j) js → Walked s₁ (mergeInto i j h) last js (followers l n i flag k mₜ))
-        → (Behind s h j (rd n HNEXT s j) js → Walked s h j js (followers l n i flag k mₚ)) → Walked s h last (j ∷ js) (followers l n i flag (suc k) m₀)
+    step : (k : ℕ) → (Behind s₁ (mergeInto i j h) last (rd n HNEXT s j) (plus log 1) js → Walked s₁ (mergeInto i j h) last js (followers l n i flag k mₜ))
+        → (Behind s h j (rd n HNEXT s j) log js → Walked s h j js (followers l n i flag k mₚ)) → Walked s h last (j ∷ js) (followers l n i flag (suc k) m₀)
     step k f g =
         rw (more k)
         (either (Walked s h last (j ∷ js) (followers l n i flag k (compared l n i flag m₀))) (sameLists h i j)
         (λ e. rw (to-taken e) (taken (followers l n i flag k mₜ) e (f taken-behind)))
         (λ e. rw (to-passed e) (passed (followers l n i flag k mₚ) e (g passed-behind))))
 
-  -- K-b in memory: the walk
-  pub walked : Distinct new → (js : List ℕ) (k : ℕ) (s : List ℤ) (h : Graph) (last x log : ℕ) → length js ≤ k → Behind s h last x js
+  -- the walks along js
+  abbrev Walks : List ℕ → Type 0
+  Walks js = (k : ℕ) (s : List ℤ) (h : Graph) (last x log : ℕ) → length js ≤ k → Behind s h last x log js
       → Walked s h last js (followers l n i flag k (comparing s (record { last = last; next = x; logged = log })))
+
+  walks-none : Walks []
   unfolding keep
-  walked once [] k s h last x log a b =
+  walks-none k s h last x log a b =
       rw (at-end l n i flag k (comparing s (record { last = last; next = x; logged = log })) (omega (arith, b .chain)))
       record {
         now = b .now;
@@ -202,9 +205,17 @@ module _ (n : ℕ) (l : List ℤ) (p : ℕ) (new : List ℕ) (cnt base lim i fla
         keeps = λ v r f. r;
         fields = λ c v e1 e2 e3 e4 e5. refl;
       }
-  walked once (j ∷ js) zero s h last x log a b = absurd (omega arith)
-  walked once (j ∷ js) (suc k) s h last x log a b =
+
+  walks-more : Distinct new → (j : ℕ) (js : List ℕ) → Walks js → Walks (j ∷ js)
+  walks-more once j js f zero s h last x log a b = absurd (omega arith)
+  walks-more once j js f (suc k) s h last x log a b =
       rw (b .chain .0)
       (step s h last x j js log once b k
-      (λ q. walked once js k (up n HNEXT (joined n s i j log) last (rd n HNEXT s j)) (mergeInto i j h) last (rd n HNEXT s j) (plus log 1) (omega arith) q)
-      (λ q. walked once js k s h j (rd n HNEXT s j) log (omega arith) q))
+      (λ q. f k (up n HNEXT (joined n s i j log) last (rd n HNEXT s j)) (mergeInto i j h) last (rd n HNEXT s j) (plus log 1) (omega arith) q)
+      (λ q. f k s h j (rd n HNEXT s j) log (omega arith) q))
+
+  -- K-b in memory: the walk
+  pub walked : Distinct new → (js : List ℕ) (k : ℕ) (s : List ℤ) (h : Graph) (last x log : ℕ) → length js ≤ k → Behind s h last x log js
+      → Walked s h last js (followers l n i flag k (comparing s (record { last = last; next = x; logged = log })))
+  walked once [] = walks-none
+  walked once (j ∷ js) = walks-more once j js (walked once js)
