@@ -9,3 +9,4 @@ pub mod Walked
 pub mod Ran
 pub mod Emptied
 pub mod Theorem
+pub mod Survivors

@@ -20,9 +20,10 @@ use Rattle.cells.proofs.Slices.{plus-sum, same?}
 use Rattle.cells.specs.Layout.{DEGREE, ELEN, LEN, MERGES, NV, ORD, PE, W, WANT}
 use Rattle.cells.specs.View.{Room, plus, rd, up}
 use Rattle.definition.specs.Merge.{entriesOf}
-use Rattle.definition.specs.State.{Graph, Kind, dense, element, hasWeight, isMerged, isVariable, kind, mergeInto, merged, variable, putKind, putParent, putReps, putWeight, weight}
+use Rattle.definition.specs.State.{Graph, hasWeight, isMerged, isVariable, kind, mergeInto, putKind, putParent, putReps, putWeight, weight}
 use Rattle.drawn.specs.Drawn.{Drawn, listOf}
 use Rattle.drawn.specs.Log.{Logged}
+use Rattle.facts.proofs.Invariant.{var-not-merged}
 use Rattle.facts.proofs.Merging.{kind-kept, parent-kept, part-moved, weight-into, weight-kept}
 use Rattle.facts.proofs.Sizes.{sized-mergeInto}
 use Rattle.facts.specs.Invariant.{Sized}
@@ -58,12 +59,6 @@ module _ {n p : ℕ} {new : List ℕ} (h : Graph) (sized : Sized n h) (i j : ℕ
 
 -- ---- what the memory holds
 
-variable-stays : (c : Kind) → isVariable c ≡ true → isMerged c ≡ false
-variable-stays variable e = refl
-variable-stays merged e = sym e
-variable-stays element e = refl
-variable-stays dense e = refl
-
 module _ {n : ℕ} {l : List ℤ} {p : ℕ} {new : List ℕ} {cnt base lim log : ℕ} (s : List ℤ) (h : Graph) (k : Now n l p new cnt base lim s h log) where
   pub held : (v : ℕ) → Row n p new h v → Held n l s h v
   unfolding listOf
@@ -88,7 +83,7 @@ module _ {n : ℕ} {l : List ℤ} {p : ℕ} {new : List ℕ} {cnt base lim log :
       )
 
   unmerged : (v : ℕ) → Row n p new h v → isMerged (kind h v) ≡ false
-  unmerged v r = variable-stays (kind h v) (r .is)
+  unmerged v r = var-not-merged (kind h v) (r .is)
 
   -- a merge
   pub join-now : (i j : ℕ) → Row n p new h i → Row n p new h j → i ≢ j → Distinct new → Now n l p new cnt base lim (joined n s i j log) (mergeInto i j h) (plus log 1)
