@@ -1,29 +1,28 @@
 -- All buckets: row after row of the new element, the bucket of its key is emptied and its rows are compared. That is the definition's step 5, bucket by bucket in the
 -- order met.
 -- Assumes nothing.
-use Prim.Native.Nat.{_+_, _-_, _<_, _≤_, _^_, suc, zero, ℕ}
+use Prim.Native.Nat.{_+_, _<_, _≤_, _^_, ℕ}
 use native.Mathlib.Omega.{arith}
-use mathlib.Core.Bool.{Bool, true, false, not, cond, _||_}
+use mathlib.Core.Bool.{Bool, true, false, cond, _||_}
 use mathlib.Core.List.{List, [], _∷_, _++_, foldl}
-use mathlib.Core.Logic.{_≢_, _⊎_, inl, inr, ⊎-elim}
-use mathlib.Core.Path.{_∙_, _≡_, ap, refl, subst, subst⁻¹, sym}
-use borrow.Author.Tests.{eq-eqb, eqb-false, eqb-true, lt-ltb, ltb-true, ne-eqb}
+use mathlib.Core.Logic.{_≢_, _⊎_, inl, inr}
+use mathlib.Core.Path.{_∙_, _≡_, ap, refl, sym}
+use borrow.Author.Tests.{eq-eqb, eqb-true, lt-ltb, ne-eqb}
 use lib.Dec.{eqb, ltb}
 use lib.IntN.{ℤ}
 use lib.ListN.{length}
 use Rattle.plain.proofs.Logic.{clash, cond-has, either}
-use Rattle.plain.proofs.Members.{kept-passes, kept-was, member-append, member-cases, member-here, member-kept, member-nil, member-there, no-member, not-kept-at}
+use Rattle.plain.proofs.Members.{kept-passes, kept-was, member-append, member-cases, member-here, member-nil, member-there, no-member, not-kept-at}
 use Rattle.plain.proofs.Repeats.{distinct-keep, distinct-snoc, length-keep}
 use Rattle.plain.proofs.Sums.{total-add, total-below, total-keep, total-ones}
 use Rattle.plain.specs.Lists.{keep, member, total}
 use Rattle.plain.specs.Members.{Distinct, In}
-use Rattle.plain.specs.Turns.{entries, times}
 use Rattle.cells.proofs.Laws.{mem, rd-up-field, room-yes}
 use Rattle.cells.proofs.Slices.{same?}
 use Rattle.cells.specs.Layout.{HHEAD, HKEY, HNEXT, NV, W}
-use Rattle.cells.specs.View.{Room, at, rd, up}
+use Rattle.cells.specs.View.{Room, rd, up}
 use Rattle.definition.specs.Merge.{mergeAll, mergeOne, alike}
-use Rattle.definition.specs.State.{Graph, hasWeight, mergeInto, weight}
+use Rattle.definition.specs.State.{Graph, hasWeight, weight}
 use Rattle.facts.proofs.Absorbing.{light-first, light-second}
 use Rattle.facts.proofs.Merging.{weight-kept}
 use Rattle.facts.specs.Classes.{bucketOf, mergeBuckets}
@@ -31,7 +30,7 @@ use Rattle.packed.proofs.Picked.{foldl-append}
 use Rattle.merging.specs.Bucketed.{Chain, Now, Row}
 use Rattle.merging.specs.Model.{Merging, bucketRun, mergedKey, mergedOf, merging}
 use Rattle.merging.specs.declared.Tally.{Tally}
-use Rattle.merging.proofs.Ran.{Left, Ready, ran}
+use Rattle.merging.proofs.Ran.{Ready, ran}
 use Rattle.merging.proofs.Rows.{field-now}
 use Rattle.merging.proofs.Walked.{chain-same, oneKey}
 

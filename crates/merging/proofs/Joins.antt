@@ -3,30 +3,30 @@
 use Prim.Native.Nat.{_+_, _<_, _≤_, _^_, ℕ}
 use native.Mathlib.Omega.{arith}
 use mathlib.Core.Bool.{Bool, true, false, cond, not, _&&_}
-use mathlib.Core.List.{List, [], _∷_, _++_}
-use mathlib.Core.Logic.{_≢_, _⊎_, inl, inr, ⊎-elim}
+use mathlib.Core.List.{List, [], _∷_}
+use mathlib.Core.Logic.{_≢_, _⊎_, inl, inr}
 use mathlib.Core.Option.{some}
-use mathlib.Core.Path.{_∙_, _≡_, ap, refl, subst, subst⁻¹, sym}
-use borrow.Author.Tests.{eq-eqb, lt-ltb, ltb-true, ne-eqb}
+use mathlib.Core.Path.{_∙_, _≡_, ap, refl, sym}
+use borrow.Author.Tests.{lt-ltb, ltb-true}
 use lib.Dec.{eqb, ltb}
 use lib.IntN.{ℤ}
 use lib.ListN.{getD, length}
 use Rattle.plain.proofs.Entries.{entries-none, upd-other, upd-same}
-use Rattle.plain.proofs.Logic.{clash, either}
+use Rattle.plain.proofs.Logic.{clash}
 use Rattle.plain.proofs.Members.{member-there}
-use Rattle.plain.specs.Lists.{isNone, member}
+use Rattle.plain.specs.Lists.{member}
 use Rattle.plain.specs.Members.{In}
-use Rattle.plain.specs.Turns.{entries, upd}
-use Rattle.cells.proofs.Fields.{rd-up-other, room-up}
+use Rattle.plain.specs.Turns.{upd}
+use Rattle.cells.proofs.Fields.{room-up}
 use Rattle.cells.proofs.Laws.{mem, rd-hang-field, rd-up-field, room-yes}
 use Rattle.cells.proofs.Parents.{room-hang}
 use Rattle.cells.proofs.Slices.{plus-sum, same?}
 use Rattle.cells.specs.Layout.{DEGREE, ELEN, LEN, MERGES, NV, ORD, PE, WANT}
-use Rattle.cells.specs.Links.{hang, named, parent}
-use Rattle.cells.specs.View.{Room, at, plus, rd, up}
-use Rattle.definition.specs.State.{Graph, elementsOf, hasWeight, isVariable, kind, live, mergeInto, variablesOf, weight, degree}
+use Rattle.cells.specs.Links.{named, parent}
+use Rattle.cells.specs.View.{Room, at, plus, rd}
+use Rattle.definition.specs.State.{Graph, elementsOf, hasWeight, isVariable, kind, mergeInto, weight}
 use Rattle.definition.specs.State as state
-use Rattle.drawn.specs.Drawn.{Drawn, Within, listOf}
+use Rattle.drawn.specs.Drawn.{Within, listOf}
 use Rattle.facts.proofs.Classes.{parent-gone}
 use Rattle.facts.proofs.Merging.{degrees-kept, elements-kept, kind-gone, kind-kept, parent-kept, variables-kept, weight-gone, weight-into, weight-kept}
 use Rattle.facts.specs.Invariant.{Sized}

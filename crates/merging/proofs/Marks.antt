@@ -1,10 +1,10 @@
 -- The marks of a comparison: of the rows below n exactly those of the list are marked, if no mark was as high as the flag. And the comparison by marks is the
 -- definition's: two rows whose lists the memory holds are alike where `sameLists` says so.
 -- Assumes nothing.
-use Prim.Native.Nat.{_+_, _-_, _<_, _≤_, ℕ}
+use Prim.Native.Nat.{_+_, _-_, _<_, ℕ}
 use native.Mathlib.Omega.{arith}
 use mathlib.Core.Bool.{Bool, true, false, cond, _&&_}
-use mathlib.Core.List.{List, [], _∷_, _++_, foldl, tail}
+use mathlib.Core.List.{List, [], _∷_, _++_, foldl}
 use mathlib.Core.Logic.{_≢_, _⊎_, inl, inr}
 use mathlib.Core.Path.{_∙_, _≡_, ap, refl, sym}
 use borrow.Author.Tests.{eq-eqb, lt-ltb, ne-eqb}
@@ -17,7 +17,7 @@ use Rattle.plain.proofs.Members.{member-cases, member-here, member-there, no-me
 use Rattle.plain.proofs.Turns.{times-fold}
 use Rattle.plain.specs.Lists.{every, member}
 use Rattle.plain.specs.Members.{Distinct, In}
-use Rattle.plain.specs.Turns.{entries, times}
+use Rattle.plain.specs.Turns.{entries}
 use Rattle.cells.proofs.Fields.{room-up}
 use Rattle.cells.proofs.Laws.{mem, room-yes, rd-up-field}
 use Rattle.cells.proofs.Slices.{same?}
@@ -26,7 +26,7 @@ use Rattle.cells.specs.View.{Room, at, rd, up}
 use Rattle.definition.specs.Merge.{entriesOf, sameLists}
 use Rattle.definition.specs.State.{Graph, elementsOf, variablesOf}
 use Rattle.facts.proofs.Same.{same-one-sided}
-use Rattle.merging.specs.Model.{alikeNow, allMarked, hasMark, markedList, marking, sameElements, tailMarked}
+use Rattle.merging.specs.Model.{alikeNow, allMarked, hasMark, marking, sameElements, tailMarked}
 
 -- each row of the list is marked
 abbrev pub markAll : ℕ → ℕ → List ℕ → List ℤ → List ℤ

@@ -4,21 +4,19 @@ use Prim.Native.Nat.{_+_, _-_, _<_, _≤_, _^_, suc, zero, ℕ}
 use native.Mathlib.Omega.{arith}
 use mathlib.Core.Bool.{Bool, true, false, not}
 use mathlib.Core.List.{List, [], _∷_, foldl}
-use mathlib.Core.Logic.{_≢_}
-use mathlib.Core.Path.{_∙_, _≡_, ap, refl, subst, subst⁻¹, sym}
+use mathlib.Core.Path.{_∙_, _≡_, ap, refl, sym}
 use borrow.Author.Tests.{le-ltb, lt-ltb}
 use lib.Dec.{eqb}
 use lib.IntN.{ℤ}
 use lib.ListN.{length}
 use Rattle.plain.proofs.Logic.{clash, either}
-use Rattle.plain.proofs.Members.{keep-same, kept-passes, kept-was, member-here, member-there, no-member, not-cons, not-here, not-there}
-use Rattle.plain.proofs.Repeats.{distinct-keep}
-use Rattle.plain.specs.Lists.{consIf, keep, member}
+use Rattle.plain.proofs.Members.{keep-same, kept-passes, kept-was, member-here, member-there, no-member, not-here, not-there}
+use Rattle.plain.proofs.Repeats.{distinct-keep, length-keep}
+use Rattle.plain.specs.Lists.{keep, member}
 use Rattle.plain.specs.Members.{Distinct, In}
-use Rattle.plain.specs.Turns.{entries}
 use Rattle.cells.proofs.Slices.{plus-sum}
 use Rattle.cells.specs.Layout.{HNEXT, LEN, MERGES, NV, PE, W}
-use Rattle.cells.specs.View.{Room, at, plus, rd}
+use Rattle.cells.specs.View.{plus, rd}
 use Rattle.definition.specs.Merge.{alike, entriesOf, key, mergeAll, mergeOne, sameLists}
 use Rattle.definition.specs.State.{Graph, mergeInto}
 use Rattle.facts.proofs.Absorbing.{absorbing, fold-chosen}
@@ -29,16 +27,6 @@ use Rattle.merging.proofs.Marks.{held-rest, mark-below, markAll, markin
 use Rattle.merging.proofs.Rows.{held, marks-now}
 use Rattle.merging.proofs.Walked.{Behind, Walked, chain-same, oneKey, walked as along}
 use Rattle.merging.proofs.Walks.{run-over}
-
--- at most as many as before
-keep-fewer : (q : ℕ → Bool) (xs : List ℕ) → length (keep q xs) ≤ length xs
-unfolding keep
-keep-fewer q [] = omega arith
-keep-fewer q (x ∷ xs) = go (q x) (keep-fewer q xs)
-  where
-    go : (b : Bool) → length (keep q xs) ≤ length xs → length (consIf b x (keep q xs)) ≤ suc (length xs)
-    go true h = omega arith
-    go false h = omega arith
 
 module _ (n : ℕ) (l : List ℤ) (p : ℕ) (new : List ℕ) (cnt base lim : ℕ) where
   -- before a bucket: its rows are vs
@@ -169,7 +157,7 @@ module _ (n : ℕ) (l : List ℤ) (p : ℕ) (new : List ℕ) (cnt base lim : ℕ
         (sym (fold-chosen oneKey i (r .rows i (member-here i js) .below) js h (r .now .sized) (r .distinct .0) (r .distinct .1)))
 
     rest-fewer : length (keep (λ j. not (sameLists h i j)) js) ≤ length js
-    rest-fewer = keep-fewer (λ j. not (sameLists h i j)) js
+    rest-fewer = length-keep (λ j. not (sameLists h i j)) js
 
     out-of-rest : (v : ℕ) → member v (i ∷ js) ≡ false → member v (keep (λ j. not (sameLists h i j)) js) ≡ false
     out-of-rest v e =

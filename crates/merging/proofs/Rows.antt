@@ -2,7 +2,7 @@
 -- Assumes nothing.
 use Prim.Native.Nat.{_+_, _<_, _^_, ℕ}
 use native.Mathlib.Omega.{arith}
-use mathlib.Core.Bool.{Bool, true, false}
+use mathlib.Core.Bool.{true, false}
 use mathlib.Core.List.{List, [], _∷_, _++_, foldl}
 use mathlib.Core.Logic.{_≢_, _⊎_, inl, inr}
 use mathlib.Core.Path.{_∙_, _≡_, ap, refl, subst⁻¹, sym}
@@ -12,16 +12,15 @@ use lib.IntN.{ℤ}
 use Rattle.plain.proofs.Entries.{upd-other}
 use Rattle.plain.proofs.Members.{member-cases, member-nil, no-member, not-cons}
 use Rattle.plain.proofs.Sums.{total-within}
-use Rattle.plain.specs.Lists.{isNone, member, total}
+use Rattle.plain.specs.Lists.{isNone, total}
 use Rattle.plain.specs.Members.{Distinct, In}
 use Rattle.plain.specs.Turns.{upd}
 use Rattle.cells.proofs.Laws.{parent-up-field, rd-up-field}
 use Rattle.cells.proofs.Slices.{plus-sum, same?}
 use Rattle.cells.specs.Layout.{DEGREE, ELEN, LEN, MERGES, NV, ORD, PE, W, WANT}
-use Rattle.cells.specs.View.{Room, plus, rd, up}
-use Rattle.definition.specs.Merge.{entriesOf}
+use Rattle.cells.specs.View.{Room, plus, up}
 use Rattle.definition.specs.State.{Graph, hasWeight, isMerged, isVariable, kind, mergeInto, putKind, putParent, putReps, putWeight, weight}
-use Rattle.drawn.specs.Drawn.{Drawn, listOf}
+use Rattle.drawn.specs.Drawn.{listOf}
 use Rattle.drawn.specs.Log.{Logged}
 use Rattle.facts.proofs.Invariant.{var-not-merged}
 use Rattle.facts.proofs.Merging.{kind-kept, parent-kept, part-moved, weight-into, weight-kept}

@@ -1,22 +1,20 @@
 -- The rows that step 5 compares, of a state of the elimination: each is as `Row` asks, and step 5 in memory for the definition's graphs.
 -- Assumes nothing.
-use Prim.Native.Nat.{_+_, _<_, _≤_, _^_, ℕ}
-use native.Mathlib.Omega.{arith}
-use mathlib.Core.Bool.{Bool, true, false, cond, not, _&&_}
-use mathlib.Core.List.{List, [], _∷_, _++_}
-use mathlib.Core.Path.{_∙_, _≡_, ap, refl, sym}
+use Prim.Native.Nat.{_+_, _<_, _^_, ℕ}
+use mathlib.Core.Bool.{Bool, true, false}
+use mathlib.Core.List.{List, []}
+use mathlib.Core.Path.{_∙_, _≡_, ap, sym}
 use lib.IntN.{ℤ}
 use lib.ListN.{getD, length}
 use Rattle.plain.proofs.Logic.{or-cases}
 use Rattle.plain.proofs.Members.{kept-was, member-append, member-kept}
-use Rattle.plain.specs.Lists.{isNone, member, keep, rotate, total}
+use Rattle.plain.specs.Lists.{isNone, member, rotate, total}
 use Rattle.plain.specs.Members.{In}
 use Rattle.plain.specs.Turns.{entries}
 use Rattle.cells.specs.Layout.{W}
 use Rattle.cells.specs.View.{at, rd}
-use Rattle.definition.specs.Merge.{entriesOf}
 use Rattle.definition.specs.Pivot.{collected, passed}
-use Rattle.definition.specs.State.{Graph, elementsOf, hasWeight, isVariable, kind, live, variablesOf, weight}
+use Rattle.definition.specs.State.{Graph, elementsOf, hasWeight, isVariable, variablesOf, weight}
 use Rattle.definition.specs.Trim.{keptElements, keptVariables}
 use Rattle.drawn.specs.Drawn.{Within}
 use Rattle.drawn.specs.Log.{Logged}
@@ -30,7 +28,7 @@ use Rattle.facts.specs.Invariant.{Quotient, Var}
 use Rattle.merging.specs.Bucketed.{Bucketed, Row}
 use Rattle.merging.specs.Model.{mergedRows, merging}
 use Rattle.merging.specs.declared.Tally.{Tally}
-use Rattle.merging.proofs.Theorem.{Given, Merged, step}
+use Rattle.merging.proofs.Theorem.{Merged, step}
 
 module _ {n : ℕ} (aggressive : Bool) (g : Graph) (p : ℕ) (q : Quotient n g) (pv : Var g p) where
   abbrev g₂ : Graph

@@ -3,9 +3,9 @@
 -- Assumes nothing.
 use Prim.Native.Nat.{_+_, _<_, _≤_, _^_, ℕ}
 use native.Mathlib.Omega.{arith}
-use mathlib.Core.Bool.{Bool, true, false}
-use mathlib.Core.List.{List, [], _∷_, foldl, reverse}
-use mathlib.Core.Path.{_∙_, _≡_, ap, refl, subst, sym}
+use mathlib.Core.Bool.{true, false}
+use mathlib.Core.List.{List, [], _∷_, foldl}
+use mathlib.Core.Path.{_∙_, _≡_, ap, subst, sym}
 use borrow.Author.Tests.{eqb-true}
 use lib.Dec.{eqb}
 use lib.IntN.{ℤ}
@@ -28,7 +28,7 @@ use Rattle.drawn.specs.Log.{Logged}
 use Rattle.facts.proofs.Buckets.{merged-buckets}
 use Rattle.facts.specs.Classes.{bucketOf, mergeBuckets, newestFirst}
 use Rattle.facts.specs.Invariant.{Sized}
-use Rattle.merging.specs.Bucketed.{Bucketed, Chain, Now, Row}
+use Rattle.merging.specs.Bucketed.{Bucketed, Chain, Row}
 use Rattle.merging.specs.Model.{Merging, mergedOf, mergedRow, mergedRows, merging}
 use Rattle.merging.specs.declared.Tally.{Tally}
 use Rattle.merging.proofs.Emptied.{Through, counted-all, every-row}
@@ -95,9 +95,6 @@ no-bucket n nx x (y ∷ ys) f c = absurd (f y (member-here y ys))
 
 module _ (n : ℕ) (l s : List ℤ) (keyOf : ℕ → ℕ) (g : Graph) (p : ℕ) (new : List ℕ) (cnt base lim : ℕ) (t : Tally) (a : Given n l s keyOf g p new cnt base lim t)
     (from k : ℕ) (list : entries (at l) from k ≡ new) where
-  abbrev vs : List ℕ
-  vs = newestFirst g new
-
   long : length new ≡ k
   long = sym (ap length list) ∙ entries-length (at l) from k
 

@@ -1,32 +1,31 @@
 -- A row takes those behind it that have its list: the walk along a bucket, at most as many turns as there are rows, is the definition's fold of `mergeOne`, and the
 -- rows that were not taken are still linked behind it, in their order.
 -- Assumes nothing.
-use Prim.Native.Nat.{_+_, _-_, _<_, _≤_, suc, zero, ℕ}
+use Prim.Native.Nat.{_<_, _≤_, suc, zero, ℕ}
 use native.Mathlib.Omega.{arith}
-use mathlib.Core.Bool.{Bool, true, false, not, cond, _&&_}
+use mathlib.Core.Bool.{true, false, not}
 use mathlib.Core.List.{List, [], _∷_, foldl}
-use mathlib.Core.Logic.{_≢_, _⊎_, inl, inr}
+use mathlib.Core.Logic.{_≢_}
 use mathlib.Core.Path.{_∙_, _≡_, ap, refl, subst, subst⁻¹, sym}
-use borrow.Author.Tests.{eq-eqb, lt-ltb}
+use borrow.Author.Tests.{lt-ltb}
 use lib.Dec.{eqb}
 use lib.IntN.{ℤ}
 use lib.ListN.{length}
 use Rattle.plain.proofs.Logic.{clash, either}
 use Rattle.plain.proofs.Members.{apart, member-here, member-there, not-here, not-there}
-use Rattle.plain.specs.Lists.{consIf, keep, member}
+use Rattle.plain.specs.Lists.{keep, member}
 use Rattle.plain.specs.Members.{Distinct, In}
-use Rattle.cells.proofs.Fields.{room-up}
 use Rattle.cells.proofs.Laws.{mem, rd-up-field, room-yes}
 use Rattle.cells.specs.Layout.{HNEXT, LEN, MERGES, NV, PE, W}
 use Rattle.cells.specs.View.{Room, plus, rd, up}
 use Rattle.definition.specs.Merge.{alike, entriesOf, key, mergeOne, sameLists}
 use Rattle.definition.specs.State.{Graph, mergeInto, putKind, putParent, putReps, putWeight}
 use Rattle.merging.specs.Bucketed.{Chain, Now, Row}
-use Rattle.merging.specs.Model.{Comparing, alikeNow, compared, comparing, followers, hasMark, joined, passedNext, takenNext}
+use Rattle.merging.specs.Model.{Comparing, alikeNow, compared, comparing, followers, joined, passedNext, takenNext}
 use Rattle.merging.proofs.Joins.{join-field, join-room}
 use Rattle.merging.proofs.Marks.{Marked, alike-same}
 use Rattle.merging.proofs.Rows.{field-now, held, join-now, row-kept}
-use Rattle.merging.proofs.Walks.{at-end, next-turn}
+use Rattle.merging.proofs.Walks.{at-end}
 
 -- within a bucket keys need no comparison
 abbrev pub oneKey : ℕ → ℕ
@@ -73,9 +72,6 @@ module _ (n : ℕ) (l : List ℤ) (p : ℕ) (new : List ℕ) (cnt base lim i fla
 
     room : Room n s
     room = b .now .drawn .space .room
-
-    after : ℕ
-    after = rd n HNEXT s j
 
     abbrev s₁ : List ℤ
     s₁ = up n HNEXT (joined n s i j log) last (rd n HNEXT s j)

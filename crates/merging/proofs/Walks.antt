@@ -1,7 +1,7 @@
 -- The turns of the three loops that a test ends: entry after entry of a comparison, row after row of a walk along a bucket.
 -- Assumes nothing.
 use Prim.Native.Nat.{_+_, _-_, _<_, _≤_, suc, zero, ℕ}
-use native.Mathlib.Nat.{add-zero, suc-add, add-suc}
+use native.Mathlib.Nat.{add-zero}
 use native.Mathlib.Omega.{arith}
 use native.Mathlib.Numerals.{add-one}
 use mathlib.Core.Bool.{Bool, true, false, _&&_}
@@ -9,9 +9,8 @@ use mathlib.Core.List.{List, [], _∷_, _++_}
 use mathlib.Core.Logic.{_≢_}
 use mathlib.Core.Path.{_∙_, _≡_, ap, refl, subst, sym}
 use borrow.Author.Tests.{eq-eqb, le-ltb, lt-ltb, ne-eqb}
-use lib.Dec.{eqb}
 use lib.IntN.{ℤ}
-use Rattle.plain.proofs.Entries.{entries-cons, entries-snoc}
+use Rattle.plain.proofs.Entries.{entries-snoc}
 use Rattle.plain.specs.Lists.{every}
 use Rattle.plain.specs.Turns.{entries}
 use Rattle.cells.specs.Layout.{HNEXT, W}
@@ -80,7 +79,7 @@ module _ (l : List ℤ) (n i flag k₀ : ℕ) (m₀ : Comparing) where
   pub walk-start : Walking l n i flag k₀ m₀ k₀ m₀
   walk-start = record { same = refl }
 
-  pub next-turn : (k : ℕ) (m : Comparing) → k ≢ 0 → m .walk .next < n → followers l n i flag k m ≡ followers l n i flag (k - 1) (compared l n i flag m)
+  next-turn : (k : ℕ) (m : Comparing) → k ≢ 0 → m .walk .next < n → followers l n i flag k m ≡ followers l n i flag (k - 1) (compared l n i flag m)
   unfolding followers
   next-turn zero m a b = absurd (a refl)
   next-turn (suc k) m a b = let e : k ≡ suc k - 1 = omega arith in rw (lt-ltb (m .walk .next) n b, ← e)
@@ -119,7 +118,7 @@ module _ (l : List ℤ) (n k c₀ i₀ : ℕ) (m₀ : Merging) where
   pub run-start : Running l n k c₀ i₀ m₀ c₀ i₀ m₀
   run-start = record { same = refl }
 
-  pub run-turn : (c i : ℕ) (m : Merging) → c ≢ 0 → i < n → bucketRun l n k c i m ≡ bucketRun l n k (c - 1) (rd n HNEXT (mergedAt l n k i m .mem) i) (mergedAt l n k i m)
+  run-turn : (c i : ℕ) (m : Merging) → c ≢ 0 → i < n → bucketRun l n k c i m ≡ bucketRun l n k (c - 1) (rd n HNEXT (mergedAt l n k i m .mem) i) (mergedAt l n k i m)
   unfolding bucketRun
   run-turn zero i m a b = absurd (a refl)
   run-turn (suc c) i m a b = let e : c ≡ suc c - 1 = omega arith in rw (lt-ltb i n b, ← e)
