@@ -1,0 +1,238 @@
+-- A bucket in memory: its newest row takes those that have its list, then the next of those that are left, and so on; that is the definition's `mergeAll` of the bucket.
+-- Assumes nothing.
+use Prim.Native.Nat.{_+_, _-_, _<_, _≤_, _^_, suc, zero, ℕ}
+use native.Mathlib.Omega.{arith}
+use mathlib.Core.Bool.{Bool, true, false, not}
+use mathlib.Core.List.{List, [], _∷_, foldl}
+use mathlib.Core.Path.{_∙_, _≡_, ap, refl, sym}
+use borrow.Author.Tests.{le-ltb, lt-ltb}
+use lib.Dec.{eqb}
+use lib.IntN.{ℤ}
+use lib.ListN.{length}
+use Rattle.plain.proofs.Logic.{clash, either}
+use Rattle.plain.proofs.Members.{keep-same, kept-passes, kept-was, member-here, member-there, no-member, not-here, not-there}
+use Rattle.plain.proofs.Repeats.{distinct-keep, length-keep}
+use Rattle.plain.specs.Lists.{keep, member}
+use Rattle.plain.specs.Members.{Distinct, In}
+use Rattle.cells.proofs.Slices.{plus-sum}
+use Rattle.cells.specs.Layout.{HNEXT, LEN, MERGES, NV, PE, W}
+use Rattle.cells.specs.View.{plus, rd}
+use Rattle.definition.specs.Merge.{alike, entriesOf, key, mergeAll, mergeOne, sameLists}
+use Rattle.definition.specs.State.{Graph, mergeInto}
+use Rattle.facts.proofs.Absorbing.{absorbing, fold-chosen}
+use Rattle.merging.specs.Bucketed.{Chain, Now, Row}
+use Rattle.merging.specs.Model.{Comparing, Merging, bucketRun, comparing, flagged, followers, markedList, mergedAt, mergedInto, merging, walked}
+use Rattle.merging.specs.declared.Tally.{Tally}
+use Rattle.merging.proofs.Marks.{held-rest, mark-below, markAll, marking-all, marks, marks-field}
+use Rattle.merging.proofs.Rows.{held, marks-now}
+use Rattle.merging.proofs.Walked.{Behind, Walked, chain-same, oneKey, walked as along}
+use Rattle.merging.proofs.Walks.{run-over}
+
+module _ (n : ℕ) (l : List ℤ) (p : ℕ) (new : List ℕ) (cnt base lim : ℕ) where
+  -- before a bucket: its rows are vs
+  pub record Ready (s : List ℤ) (h : Graph) (x : ℕ) (vs : List ℕ) (t : Tally) : Type 0 where
+    pub now : Now n l p new cnt base lim s h (t .logged)
+    pub rows : (v : ℕ) → In v vs → Row n p new h v
+    pub distinct : Distinct vs
+    pub chain : Chain n (rd n HNEXT s) x vs
+    pub below : (y : ℕ) → y < n → rd n W s y < t .flag
+    pub room : t .flag + length vs < 2 ^ 63
+
+  -- after it, or a part of it: h is now h′, the flag rose by at most c
+  pub record Left (s : List ℤ) (h : Graph) (vs : List ℕ) (t : Tally) (h′ : Graph) (c : ℕ) (m : Merging) : Type 0 where
+    pub now : Now n l p new cnt base lim (m .mem) h′ (m .tally .logged)
+    pub next : (v : ℕ) → member v vs ≡ false → rd n HNEXT (m .mem) v ≡ rd n HNEXT s v
+    pub fields : (c v : ℕ) → eqb NV c ≡ false → eqb LEN c ≡ false → eqb PE c ≡ false → eqb MERGES c ≡ false → eqb HNEXT c ≡ false → eqb W c ≡ false
+        → rd n c (m .mem) v ≡ rd n c s v
+    pub below : (y : ℕ) → y < n → rd n W (m .mem) y < m .tally .flag
+    pub flags : m .tally .flag ≤ t .flag + c
+    pub rises : t .flag ≤ m .tally .flag
+    pub keeps : (v : ℕ) → Row n p new h v → member v vs ≡ false → Row n p new h′ v
+
+  -- one row, and those behind it that are left
+  record Took (s : List ℤ) (h : Graph) (i : ℕ) (js : List ℕ) (t : Tally) (m : Merging) : Type 0 where
+    left : Left s h (i ∷ js) t (foldl (mergeOne oneKey i) h js) 1 m
+    chain : Chain n (rd n HNEXT (m .mem)) (rd n HNEXT (m .mem) i) (keep (λ j. not (sameLists h i j)) js)
+    rows : (v : ℕ) → In v (keep (λ j. not (sameLists h i j)) js) → Row n p new (foldl (mergeOne oneKey i) h js) v
+
+  not-kept : (b : Bool) → not b ≡ true → b ≡ false
+  not-kept true e = sym e
+  not-kept false e = refl
+
+  module _ (once : Distinct new) (k : ℕ) (s : List ℤ) (h : Graph) (x i : ℕ) (js : List ℕ) (t : Tally) (r : Ready s h x (i ∷ js) t) (enough : length js ≤ k) where
+    ri : Row n p new h i
+    ri = r .rows i (member-here i js)
+
+    abbrev sₘ : List ℤ
+    sₘ = markAll n (t .flag) (entriesOf h i) s
+
+    is-marked : markedList l n (t .flag) i s ≡ sₘ
+    unfolding markedList
+    is-marked =
+        marking-all l n (t .flag) (rd n PE s i + 1) (rd n LEN s i - 1) s ∙ ap (λ (xs : List ℕ). markAll n (t .flag) xs s) (held-rest n l s h i (held s h (r .now) i ri))
+
+    behind : Behind n l p new cnt base lim i (t .flag) sₘ h i (rd n HNEXT sₘ i) (t .logged) js
+    behind =
+        record {
+          now = marks-now (t .flag) (entriesOf h i) s h (r .now);
+          first = ri;
+          rows = λ v m. r .rows v (member-there v i js m);
+          distinct = r .distinct .1;
+          other = r .distinct .0;
+          marked = marks n (t .flag) (entriesOf h i) s (r .now .drawn .space .room) (r .below);
+          chain = rw (marks-field n (t .flag) HNEXT refl (entriesOf h i) s i)
+              (chain-same n (rd n HNEXT s) (rd n HNEXT sₘ) js (rd n HNEXT s i) (λ v m. marks-field n (t .flag) HNEXT refl (entriesOf h i) s v) (r .chain .2));
+          small = ri .below;
+          before = r .distinct .0;
+          link = refl;
+        }
+
+    abbrev mᵢ : Comparing
+    mᵢ = followers l n i (t .flag) k (comparing sₘ (record { last = i; next = rd n HNEXT sₘ i; logged = t .logged }))
+
+    w : Walked n l p new cnt base lim i (t .flag) sₘ h i js mᵢ
+    w = along n l p new cnt base lim i (t .flag) once js k sₘ h i (rd n HNEXT sₘ i) (t .logged) enough behind
+
+    is-at : rd n HNEXT s i < n → mergedAt l n k i (merging s t) ≡ flagged (walked (t .flag) mᵢ)
+    unfolding mergedAt mergedInto
+    is-at a = rw (lt-ltb (rd n HNEXT s i) n a, is-marked)
+
+    took-some : rd n HNEXT s i < n → Took s h i js t (mergedAt l n k i (merging s t))
+    took-some a =
+        let f : plus (t .flag) 1 ≡ t .flag + 1 = plus-sum (t .flag) 1 (omega (arith, r .room)) in
+        rw (is-at a)
+        record {
+          left = record {
+            now = w .now;
+            next = λ v e. w .next v (not-here v i js e) (not-there v i js e) ∙ marks-field n (t .flag) HNEXT refl (entriesOf h i) s v;
+            fields = λ c v e1 e2 e3 e4 e5 e6. w .fields c v e1 e2 e3 e4 e5 ∙ marks-field n (t .flag) c e6 (entriesOf h i) s v;
+            below = λ y b. rw (f, w .fields W y refl refl refl refl refl) (mark-below n (t .flag) y b (entriesOf h i) s (r .now .drawn .space .room) (r .below y b));
+            flags = omega (arith, f);
+            rises = omega (arith, f);
+            keeps = λ v q e. w .keeps v q (λ z. clash (member v js) z (not-there v i js e));
+          };
+          chain = w .chain;
+          rows = λ v m.
+              let z : In v js = kept-was v (λ j. not (sameLists h i j)) js m in
+              w .keeps v (r .rows v (member-there v i js z)) (λ _. not-kept (sameLists h i v) (kept-passes v (λ j. not (sameLists h i j)) js m));
+        }
+
+  -- nobody is behind it
+  took-none : (k : ℕ) (s : List ℤ) (h : Graph) (x i : ℕ) (t : Tally) → Ready s h x (i ∷ []) t → Took s h i [] t (mergedAt l n k i (merging s t))
+  unfolding mergedAt keep
+  took-none k s h x i t r =
+      rw (le-ltb (rd n HNEXT s i) n (omega (arith, r .chain .2)))
+      record {
+        left = record {
+          now = r .now;
+          next = λ v e. refl;
+          fields = λ c v e1 e2 e3 e4 e5 e6. refl;
+          below = r .below;
+          flags = omega arith;
+          rises = omega arith;
+          keeps = λ v q e. q;
+        };
+        chain = r .chain .2;
+        rows = λ v m. no-member v m;
+      }
+
+  took : Distinct new → (k : ℕ) (s : List ℤ) (h : Graph) (x i : ℕ) (js : List ℕ) (t : Tally) → Ready s h x (i ∷ js) t → length js ≤ k
+      → Took s h i js t (mergedAt l n k i (merging s t))
+  took once k s h x i [] t r e = took-none k s h x i t r
+  took once k s h x i (j ∷ js) t r e = took-some once k s h x i (j ∷ js) t r e (omega (arith, r .chain .2 .0, r .chain .2 .1))
+
+  -- ---- the definition: the first row takes those that have its list, they leave, and the rest is compared
+
+  module _ (s : List ℤ) (h : Graph) (x i : ℕ) (js : List ℕ) (t : Tally) (r : Ready s h x (i ∷ js) t) where
+    alike-one : (j : ℕ) → In j js → alike oneKey h i j ≡ sameLists h i j
+    unfolding alike key
+    alike-one j m = rw (r .rows i (member-here i js) .heavy, r .rows j (member-there j i js m) .heavy)
+
+    split-all : mergeAll oneKey (i ∷ js) h ≡ mergeAll oneKey (keep (λ j. not (sameLists h i j)) js) (foldl (mergeOne oneKey i) h js)
+    split-all =
+        absorbing oneKey i (r .rows i (member-here i js) .below) js h (r .now .sized) (r .distinct .0) (r .distinct .1) (λ v m. r .rows v (member-there v i js m) .below)
+        ∙ ap (λ (xs : List ℕ). mergeAll oneKey xs (foldl (λ b j. mergeInto i j b) h (keep (alike oneKey h i) js)))
+        (keep-same (λ j. not (alike oneKey h i j)) (λ j. not (sameLists h i j)) js (λ j m. ap not (alike-one j m)))
+        ∙ ap (mergeAll oneKey (keep (λ j. not (sameLists h i j)) js))
+        (sym (fold-chosen oneKey i (r .rows i (member-here i js) .below) js h (r .now .sized) (r .distinct .0) (r .distinct .1)))
+
+    rest-fewer : length (keep (λ j. not (sameLists h i j)) js) ≤ length js
+    rest-fewer = length-keep (λ j. not (sameLists h i j)) js
+
+    out-of-rest : (v : ℕ) → member v (i ∷ js) ≡ false → member v (keep (λ j. not (sameLists h i j)) js) ≡ false
+    out-of-rest v e =
+        either (member v (keep (λ j. not (sameLists h i j)) js) ≡ false) (member v (keep (λ j. not (sameLists h i j)) js))
+        (λ m. clash (member v js) (kept-was v (λ j. not (sameLists h i j)) js m) (not-there v i js e)) (λ m. m)
+
+    module _ (m : Merging) (k : Took s h i js t m) where
+      again : Ready (m .mem) (foldl (mergeOne oneKey i) h js) (rd n HNEXT (m .mem) i) (keep (λ j. not (sameLists h i j)) js) (m .tally)
+      again =
+          record {
+            now = k .left .now;
+            rows = k .rows;
+            distinct = distinct-keep (λ j. not (sameLists h i j)) js (r .distinct .1);
+            chain = k .chain;
+            below = k .left .below;
+            room = omega (arith, r .room, rest-fewer, k .left .flags);
+          }
+
+      joint : (h₂ : Graph) (m₂ : Merging) → Left (m .mem) (foldl (mergeOne oneKey i) h js) (keep (λ j. not (sameLists h i j)) js) (m .tally) h₂
+          (length (keep (λ j. not (sameLists h i j)) js)) m₂ → Left s h (i ∷ js) t h₂ (length (i ∷ js)) m₂
+      joint h₂ m₂ w =
+          record {
+            now = w .now;
+            next = λ v e. w .next v (out-of-rest v e) ∙ k .left .next v e;
+            fields = λ c v e1 e2 e3 e4 e5 e6. w .fields c v e1 e2 e3 e4 e5 e6 ∙ k .left .fields c v e1 e2 e3 e4 e5 e6;
+            below = w .below;
+            flags = omega (arith, w .flags, k .left .flags, rest-fewer);
+            rises = omega (arith, w .rises, k .left .rises);
+            keeps = λ v q e. w .keeps v (k .left .keeps v q e) (out-of-rest v e);
+          }
+
+  run-one : (k c i : ℕ) (m : Merging) → i < n → bucketRun l n k (suc c) i m ≡ bucketRun l n k c (rd n HNEXT (mergedAt l n k i m .mem) i) (mergedAt l n k i m)
+  unfolding bucketRun
+  run-one k c i m a = rw (lt-ltb i n a)
+
+  none-merged : (h : Graph) → mergeAll oneKey [] h ≡ h
+  unfolding mergeAll
+  none-merged h = refl
+
+  ran-none : (k c : ℕ) (s : List ℤ) (h : Graph) (x : ℕ) (t : Tally) → Ready s h x [] t → Left s h [] t (mergeAll oneKey [] h) 0 (bucketRun l n k c x (merging s t))
+  ran-none k c s h x t r =
+      rw (run-over l n k 0 0 (merging s t) c x (merging s t) (omega (arith, r .chain)), none-merged h)
+      record {
+        now = r .now;
+        next = λ v e. refl;
+        fields = λ c v e1 e2 e3 e4 e5 e6. refl;
+        below = r .below;
+        flags = omega arith;
+        rises = omega arith;
+        keeps = λ v q e. q;
+      }
+
+  -- the buckets of at most c rows
+  abbrev Runs : ℕ → ℕ → Type 0
+  Runs k c = (vs : List ℕ) (s : List ℤ) (h : Graph) (x : ℕ) (t : Tally) → length vs ≤ c → length vs ≤ k → Ready s h x vs t
+      → Left s h vs t (mergeAll oneKey vs h) (length vs) (bucketRun l n k c x (merging s t))
+
+  runs-none : (k : ℕ) → Runs k 0
+  runs-none k [] s h x t a b r = ran-none k 0 s h x t r
+  runs-none k (i ∷ js) s h x t a b r = absurd (omega arith)
+
+  runs-more : Distinct new → (k c : ℕ) → Runs k c → Runs k (suc c)
+  runs-more once k c f [] s h x t a b r = ran-none k (suc c) s h x t r
+  runs-more once k c f (i ∷ js) s h x t a b r =
+      let fewer = rest-fewer s h x i js t r in
+      let w = took once k s h x i js t r (omega arith) in
+      rw (r .chain .0, run-one k c i (merging s t) (r .chain .1), split-all s h x i js t r)
+      (joint s h x i js t r (mergedAt l n k i (merging s t)) w (mergeAll oneKey (keep (λ j. not (sameLists h i j)) js) (foldl (mergeOne oneKey i) h js))
+      (bucketRun l n k c (rd n HNEXT (mergedAt l n k i (merging s t) .mem) i) (mergedAt l n k i (merging s t)))
+      (f (keep (λ j. not (sameLists h i j)) js) (mergedAt l n k i (merging s t) .mem) (foldl (mergeOne oneKey i) h js)
+      (rd n HNEXT (mergedAt l n k i (merging s t) .mem) i) (mergedAt l n k i (merging s t) .tally) (omega arith) (omega arith)
+      (again s h x i js t r (mergedAt l n k i (merging s t)) w)))
+
+  -- K-b in memory: the bucket
+  pub ran : Distinct new → (k c : ℕ) (vs : List ℕ) (s : List ℤ) (h : Graph) (x : ℕ) (t : Tally) → length vs ≤ c → length vs ≤ k → Ready s h x vs t
+      → Left s h vs t (mergeAll oneKey vs h) (length vs) (bucketRun l n k c x (merging s t))
+  ran once k zero = runs-none k
+  ran once k (suc c) = runs-more once k c (ran once k c)

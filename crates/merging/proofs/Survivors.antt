@@ -1,0 +1,97 @@
+-- The rows that step 5 compares, of a state of the elimination: each is as `Row` asks, and step 5 in memory for the definition's graphs.
+-- Assumes nothing.
+use Prim.Native.Nat.{_+_, _<_, _^_, ℕ}
+use mathlib.Core.Bool.{Bool, true, false}
+use mathlib.Core.List.{List, []}
+use mathlib.Core.Path.{_∙_, _≡_, ap, sym}
+use lib.IntN.{ℤ}
+use lib.ListN.{getD, length}
+use Rattle.plain.proofs.Logic.{or-cases}
+use Rattle.plain.proofs.Members.{kept-was, member-append, member-kept}
+use Rattle.plain.specs.Lists.{isNone, member, rotate, total}
+use Rattle.plain.specs.Members.{In}
+use Rattle.plain.specs.Turns.{entries}
+use Rattle.cells.specs.Layout.{W}
+use Rattle.cells.specs.View.{at, rd}
+use Rattle.definition.specs.Pivot.{collected, passed}
+use Rattle.definition.specs.State.{Graph, elementsOf, hasWeight, isVariable, variablesOf, weight}
+use Rattle.definition.specs.Trim.{keptElements, keptVariables}
+use Rattle.drawn.specs.Drawn.{Within}
+use Rattle.drawn.specs.Log.{Logged}
+use Rattle.facts.proofs.Collected.{collected-apart, collected-var, distinct-collected}
+use Rattle.facts.proofs.Invariant.{element-inside}
+use Rattle.facts.proofs.Rows.{same-passed}
+use Rattle.facts.proofs.Stepped.{afterMerge, afterTrim, elements2, inside, isMass, keptE, keptV, kind2, sized2, var-parent2}
+use Rattle.facts.proofs.Weights.{compared-mass, distinct-entries, entry}
+use Rattle.facts.specs.Classes.{newestFirst}
+use Rattle.facts.specs.Invariant.{Quotient, Var}
+use Rattle.merging.specs.Bucketed.{Bucketed, Row}
+use Rattle.merging.specs.Model.{mergedRows, merging}
+use Rattle.merging.specs.declared.Tally.{Tally}
+use Rattle.merging.proofs.Theorem.{Merged, step}
+
+module _ {n : ℕ} (aggressive : Bool) (g : Graph) (p : ℕ) (q : Quotient n g) (pv : Var g p) where
+  abbrev g₂ : Graph
+  g₂ = afterTrim aggressive g p
+
+  abbrev new : List ℕ
+  new = collected g p
+
+  module _ (v : ℕ) (m : In v new) (heavy : hasWeight g₂ v ≡ true) where
+    vv : Var g v
+    vv = collected-var q p pv v m
+
+    no-mass : isMass aggressive g p v ≡ false
+    no-mass = compared-mass (λ x. x) aggressive g p q pv v (member-kept v (hasWeight g₂) new heavy m)
+
+    element-few : (y : ℕ) → In y (keptE aggressive g p v) → y < n
+    unfolding keptElements
+    element-few y z =
+        element-inside q y
+        (q .elements-live v y vv (ap (λ (x : List (List ℕ)). member y (getD x v [])) (sym (same-passed g p .elements)) ∙ kept-was y _ (elementsOf (passed g p) v) z) .0)
+
+    variable-few : (y : ℕ) → In y (keptV g p v) → y < n
+    unfolding keptVariables
+    variable-few y z =
+        q .inside-variables v y vv (ap (λ (x : List (List ℕ)). member y (getD x v [])) (sym (same-passed g p .variables)) ∙ kept-was y _ (variablesOf (passed g p) v) z)
+
+    pub survivor-row : Row n p new g₂ v
+    survivor-row =
+        record {
+          below = inside aggressive g p q pv v m;
+          other = collected-apart g p v m;
+          inside = m;
+          heavy = heavy;
+          is = ap isVariable (kind2 aggressive g p q pv v m) ∙ rw no-mass vv;
+          orphan = ap isNone (var-parent2 aggressive g p q pv v vv (λ _. no-mass)) ∙ q .orphan v vv;
+          rest = rotate (keptE aggressive g p v);
+          elements = elements2 aggressive g p q pv v m no-mass;
+          few = λ y z.
+              or-cases (y < n) (member y (keptE aggressive g p v)) (member y (keptV g p v))
+              (sym (member-append y (keptE aggressive g p v) (keptV g p v)) ∙ sym (entry (λ x. x) aggressive g p q pv y v m no-mass) ∙ z) (element-few y) (variable-few y);
+          once = distinct-entries (λ x. x) aggressive g p q pv v m no-mass;
+        }
+
+  -- step 5 in memory, of a state of the elimination: `step-buckets` of the facts is what the code does
+  pub merged-in-memory : (keyOf : ℕ → ℕ) (l s : List ℤ) (cnt base lim : ℕ) (t : Tally) (ms : List ℕ) → Within n l s g₂ p new cnt base lim → total (weight g₂) new < 2 ^ 63
+      → Bucketed n s keyOf g₂ new → ((y : ℕ) → y < n → rd n W s y < t .flag) → n < 2 ^ 63 → Logged n s g₂ ms → t .logged ≡ length ms
+      → t .flag + length new + length new < 2 ^ 63 → (from k : ℕ) → entries (at l) from k ≡ new
+      → Merged n l p new cnt base lim (t .flag) (length (newestFirst g₂ new)) (afterMerge keyOf aggressive g p) (mergedRows l n from k (merging s t))
+  merged-in-memory keyOf l s cnt base lim t ms drawn light bucketed below small logged count room from k list =
+      step n l s keyOf g₂ p new cnt base lim t
+      record {
+        drawn = drawn;
+        sized = sized2 aggressive g p q pv;
+        light = light;
+        once = distinct-collected g p;
+        inside = inside aggressive g p q pv;
+        rows = survivor-row;
+        bucketed = bucketed;
+        below = below;
+        small = small;
+        ms = ms;
+        logged = logged;
+        count = count;
+        room = room;
+      }
+      from k list

@@ -1,0 +1,144 @@
+-- The turns of the three loops that a test ends: entry after entry of a comparison, row after row of a walk along a bucket.
+-- Assumes nothing.
+use Prim.Native.Nat.{_+_, _-_, _<_, _≤_, suc, zero, ℕ}
+use native.Mathlib.Nat.{add-zero}
+use native.Mathlib.Omega.{arith}
+use native.Mathlib.Numerals.{add-one}
+use mathlib.Core.Bool.{Bool, true, false, _&&_}
+use mathlib.Core.List.{List, [], _∷_, _++_}
+use mathlib.Core.Logic.{_≢_}
+use mathlib.Core.Path.{_∙_, _≡_, ap, refl, subst, sym}
+use borrow.Author.Tests.{eq-eqb, le-ltb, lt-ltb, ne-eqb}
+use lib.IntN.{ℤ}
+use Rattle.plain.proofs.Entries.{entries-snoc}
+use Rattle.plain.specs.Lists.{every}
+use Rattle.plain.specs.Turns.{entries}
+use Rattle.cells.specs.Layout.{HNEXT, W}
+use Rattle.cells.specs.View.{at, rd}
+use Rattle.merging.specs.Model.{Comparing, Merging, allMarked, bucketRun, compared, comparing, followers, hasMark, mergedAt, mergedInto, merging}
+use Rattle.merging.specs.declared.Tally.{Tally}
+use Rattle.merging.specs.declared.Walk.{Walk}
+
+-- ---- the entries of a comparison
+
+every-snoc : (p : ℕ → Bool) (xs : List ℕ) (x : ℕ) → every p xs ≡ true → p x ≡ true → every p (xs ++ (x ∷ [])) ≡ true
+unfolding every
+every-snoc p [] x h e = rw e
+every-snoc p (y ∷ ys) x h e = go (p y) h (λ f. every-snoc p ys x f e)
+  where
+    go : (b : Bool) → b && every p ys ≡ true → (every p ys ≡ true → every p (ys ++ (x ∷ [])) ≡ true) → b && every p (ys ++ (x ∷ [])) ≡ true
+    go true h f = f h
+    go false h f = h
+
+some-fails : (p : ℕ → Bool) (F : ℕ → ℕ) (a k t : ℕ) → t < k → p (F (a + t)) ≡ false → every p (entries F a k) ≡ false
+unfolding every entries
+some-fails p F a zero t h e = absurd (omega arith)
+some-fails p F a (suc k) zero h e = rw (ap (λ (x : ℕ). p (F x)) (sym (add-zero a)) ∙ e)
+some-fails p F a (suc k) (suc t) h e = go (p (F a)) (some-fails p F (suc a) k t (omega arith) (ap (λ (x : ℕ). p (F x)) (omega arith) ∙ e))
+  where
+    go : (b : Bool) → every p (entries F (suc a) k) ≡ false → b && every p (entries F (suc a) k) ≡ false
+    go true f = f
+    go false f = refl
+
+-- the first t entries are marked
+pub record MarkedTo (l : List ℤ) (n : ℕ) (s : List ℤ) (p flag t : ℕ) : Type 0 where
+  pub so : every (hasMark n s flag) (entries (at l) p t) ≡ true
+
+module _ (l : List ℤ) (n : ℕ) (s : List ℤ) (p flag : ℕ) where
+  pub marked-start : MarkedTo l n s p flag 0
+  unfolding every entries
+  marked-start = record { so = refl }
+
+  module _ (t : ℕ) (h : MarkedTo l n s p flag t) where
+    module _ (x w : ℕ) (hx : x ≡ at l (p + t)) (hw : w ≡ rd n W s x) where
+      is : rd n W s (at l (p + t)) ≡ w
+      is = rw (← hx, hw)
+
+      pub marked-more : w ≡ flag → MarkedTo l n s p flag (t + 1)
+      marked-more e =
+          record {
+            so = rw (add-one t, entries-snoc (at l) p t)
+                (every-snoc (hasMark n s flag) (entries (at l) p t) (at l (p + t)) (h .so) (eq-eqb (rd n W s (at l (p + t))) flag (is ∙ e)));
+          }
+
+      pub marked-not : (k : ℕ) → w ≢ flag → t < k → false ≡ allMarked l n s p k flag
+      unfolding allMarked
+      marked-not k e lt =
+          sym (some-fails (hasMark n s flag) (at l) p k t lt (ne-eqb (rd n W s (at l (p + t))) flag (λ q. e (sym is ∙ q))))
+
+    pub marked-all : (k : ℕ) → k ≤ t → t ≤ k → true ≡ allMarked l n s p k flag
+    unfolding allMarked
+    marked-all k a b = sym (subst (λ (c : ℕ). every (hasMark n s flag) (entries (at l) p c) ≡ true) (omega arith) (h .so))
+
+-- ---- a walk: what is left to do gives what was to be done
+
+pub record Walking (l : List ℤ) (n i flag k₀ : ℕ) (m₀ : Comparing) (k : ℕ) (m : Comparing) : Type 0 where
+  pub same : followers l n i flag k₀ m₀ ≡ followers l n i flag k m
+
+module _ (l : List ℤ) (n i flag k₀ : ℕ) (m₀ : Comparing) where
+  pub walk-start : Walking l n i flag k₀ m₀ k₀ m₀
+  walk-start = record { same = refl }
+
+  next-turn : (k : ℕ) (m : Comparing) → k ≢ 0 → m .walk .next < n → followers l n i flag k m ≡ followers l n i flag (k - 1) (compared l n i flag m)
+  unfolding followers
+  next-turn zero m a b = absurd (a refl)
+  next-turn (suc k) m a b = let e : k ≡ suc k - 1 = omega arith in rw (lt-ltb (m .walk .next) n b, ← e)
+
+  module _ (k : ℕ) (s : List ℤ) (w : Walk) (h : Walking l n i flag k₀ m₀ k (comparing s w)) where
+    pub walk-more : (r : List ℤ) (v : Walk) → comparing r v ≡ compared l n i flag (comparing s w) → k ≢ 0 → w .next < n → Walking l n i flag k₀ m₀ (k - 1) (comparing r v)
+    walk-more r v e a b = record { same = rw e (h .same ∙ next-turn k (comparing s w) a b) }
+
+pub at-end : (l : List ℤ) (n i flag k : ℕ) (m : Comparing) → n ≤ m .walk .next → followers l n i flag k m ≡ m
+unfolding followers
+at-end l n i flag zero m h = refl
+at-end l n i flag (suc k) m h = rw (le-ltb (m .walk .next) n h)
+
+at-last : (l : List ℤ) (n i flag k : ℕ) (m : Comparing) → k ≡ 0 → followers l n i flag k m ≡ m
+unfolding followers
+at-last l n i flag k m h = rw h
+
+module _ (l : List ℤ) (n k i : ℕ) (s : List ℤ) (t : Tally) (first : ℕ) (hf : first ≡ rd n HNEXT s i) (c : ℕ) (r : List ℤ) (w : Walk)
+    (h : Walking l n i (t .flag) k (comparing s (record { last = i; next = first; logged = t .logged })) c (comparing r w)) where
+  whole : followers l n i (t .flag) c (comparing r w) ≡ comparing r w → merging r (record { flag = t .flag; logged = w .logged }) ≡ mergedInto l n k i (merging s t)
+  unfolding mergedInto
+  whole e = rw (← hf, h .same, e)
+
+  pub walk-end : n ≤ w .next → merging r (record { flag = t .flag; logged = w .logged }) ≡ mergedInto l n k i (merging s t)
+  walk-end a = whole (at-end l n i (t .flag) c (comparing r w) a)
+
+  pub walk-out : c ≡ 0 → merging r (record { flag = t .flag; logged = w .logged }) ≡ mergedInto l n k i (merging s t)
+  walk-out a = whole (at-last l n i (t .flag) c (comparing r w) a)
+
+-- ---- the rows of a bucket
+
+pub record Running (l : List ℤ) (n k c₀ i₀ : ℕ) (m₀ : Merging) (c i : ℕ) (m : Merging) : Type 0 where
+  pub same : bucketRun l n k c₀ i₀ m₀ ≡ bucketRun l n k c i m
+
+module _ (l : List ℤ) (n k c₀ i₀ : ℕ) (m₀ : Merging) where
+  pub run-start : Running l n k c₀ i₀ m₀ c₀ i₀ m₀
+  run-start = record { same = refl }
+
+  run-turn : (c i : ℕ) (m : Merging) → c ≢ 0 → i < n → bucketRun l n k c i m ≡ bucketRun l n k (c - 1) (rd n HNEXT (mergedAt l n k i m .mem) i) (mergedAt l n k i m)
+  unfolding bucketRun
+  run-turn zero i m a b = absurd (a refl)
+  run-turn (suc c) i m a b = let e : c ≡ suc c - 1 = omega arith in rw (lt-ltb i n b, ← e)
+
+  pub run-over : (c i : ℕ) (m : Merging) → n ≤ i → bucketRun l n k c i m ≡ m
+  unfolding bucketRun
+  run-over zero i m h = refl
+  run-over (suc c) i m h = rw (le-ltb i n h)
+
+  run-last : (c i : ℕ) (m : Merging) → c ≡ 0 → bucketRun l n k c i m ≡ m
+  unfolding bucketRun
+  run-last c i m h = rw h
+
+  module _ (c i : ℕ) (s : List ℤ) (t : Tally) (h : Running l n k c₀ i₀ m₀ c i (merging s t)) where
+    pub run-more : (r : List ℤ) (u : Tally) (next : ℕ) → merging r u ≡ mergedAt l n k i (merging s t) → next ≡ rd n HNEXT r i → c ≢ 0 → i < n
+        → Running l n k c₀ i₀ m₀ (c - 1) next (merging r u)
+    run-more r u next e hn a b = record { same = rw hn (h .same ∙ run-turn c i (merging s t) a b ∙ ap (λ (m : Merging). bucketRun l n k (c - 1) (rd n HNEXT (m .mem) i) m) (sym e)) }
+
+    pub run-end : n ≤ i → merging s t ≡ bucketRun l n k c₀ i₀ m₀
+    run-end a = sym (h .same ∙ run-over c i (merging s t) a)
+
+    pub run-out : c ≡ 0 → merging s t ≡ bucketRun l n k c₀ i₀ m₀
+    run-out a = sym (h .same ∙ run-last c i (merging s t) a)

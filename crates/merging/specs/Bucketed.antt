@@ -1,0 +1,53 @@
+-- The buckets of step 5 in memory: the rows of one key, newest first, along the links; and what step 5 asks of the rows that it compares.
+-- Assumes nothing.
+use Prim.Native.Nat.{ℕ, _<_, _^_}
+use mathlib.Core.Bool.{true}
+use mathlib.Core.List.{List, [], _∷_}
+use mathlib.Core.Logic.{_≢_}
+use mathlib.Core.Path.{_≡_}
+use lib.IntN.{ℤ}
+use lib.ListN.{length}
+use Rattle.plain.specs.Lists.{total}
+use Rattle.plain.specs.Members.{Distinct, In}
+use Rattle.cells.specs.Layout.{HHEAD, HKEY, HNEXT}
+use Rattle.cells.specs.View.{rd}
+use Rattle.definition.specs.Merge.{entriesOf, key}
+use Rattle.definition.specs.State.{Graph, elementsOf, hasWeight, isVariable, kind, live, weight}
+use Rattle.drawn.specs.Drawn.{Within}
+use Rattle.drawn.specs.Log.{Logged}
+use Rattle.facts.specs.Classes.{bucketOf, newestFirst}
+use Rattle.facts.specs.Invariant.{Sized}
+
+-- from x on, by the links nx, the rows are l; n is the end
+abbrev pub Chain : ℕ → (ℕ → ℕ) → ℕ → List ℕ → Type 0
+Chain n nx x [] = x ≡ n
+Chain n nx x (i ∷ l) = (x ≡ i) × (i < n) × Chain n nx (nx i) l
+
+-- step 4 leaves each kept row in the bucket of its key
+pub record Bucketed (n : ℕ) (s : List ℤ) (keyOf : ℕ → ℕ) (g : Graph) (new : List ℕ) : Type 0 where
+  pub bucket : (k : ℕ) → k < n → Chain n (rd n HNEXT s) (rd n HHEAD s k) (bucketOf (key keyOf g) (newestFirst g new) k)
+  pub keys : (v : ℕ) → In v (newestFirst g new) → rd n HKEY s v ≡ key keyOf g v
+  pub below : (v : ℕ) → In v (newestFirst g new) → key keyOf g v < n
+
+-- a row that step 5 compares: a variable of the new element, whose list begins with it
+pub record Row (n p : ℕ) (new : List ℕ) (h : Graph) (v : ℕ) : Type 0 where
+  pub below : v < n
+  pub other : v ≢ p
+  pub inside : In v new
+  pub heavy : hasWeight h v ≡ true
+  pub is : isVariable (kind h v) ≡ true
+  pub orphan : live h v ≡ true
+  pub rest : List ℕ
+  pub elements : elementsOf h v ≡ p ∷ rest
+  pub few : (y : ℕ) → In y (entriesOf h v) → y < n
+  pub once : Distinct (entriesOf h v)
+
+-- the memory holds the graph and the log of its merges, `log` of them, and no sum of weights goes beyond a cell
+pub record Now (n : ℕ) (l : List ℤ) (p : ℕ) (new : List ℕ) (cnt base lim : ℕ) (s : List ℤ) (h : Graph) (log : ℕ) : Type 0 where
+  pub drawn : Within n l s h p new cnt base lim
+  pub sized : Sized n h
+  pub light : total (weight h) new < 2 ^ 63
+  pub small : n < 2 ^ 63
+  pub ms : List ℕ
+  pub logged : Logged n s h ms
+  pub count : log ≡ length ms
