@@ -1,0 +1,2 @@
+-- The modules of `opening` that belong to no one function.
+pub mod Steps

@@ -1,0 +1,3 @@
+-- The definitions that the contracts of `opening` cite.
+pub mod Start
+pub mod Begin
