@@ -1,2 +1,4 @@
 -- The modules of `opening` that belong to no one function.
 pub mod Steps
+pub mod Kept
+pub mod Rows
