@@ -3,3 +3,4 @@ pub mod Steps
 pub mod Kept
 pub mod Rows
 pub mod Opening
+pub mod Taking

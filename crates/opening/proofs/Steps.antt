@@ -76,10 +76,10 @@ module _ (n me base lim made : ℕ) (l s : List ℤ) where
   unfolding gatheredWith
   with-step k p s₁ l₂ s₂ s₃ r hp hs hg ha = rw (← hp, ← hs, ← hg, ha)
 
-  pub alone-step : (p : ℕ) (l₁ s₁ : List ℤ) (c : ℕ) → p ≡ rd n PE s me → inside l₁ s₁ c ≡ gatheredInside n me l s
-      → outside l₁ s₁ (record { start = p; count = c; free = lim; base = base; made = made; collected = 0 }) ≡ gatheredAlone n me base lim made l s
+  pub alone-step : (p : ℕ) (l₁ s₁ : List ℤ) (c : ℕ) (s₂ : List ℤ) → p ≡ rd n PE s me → inside l₁ s₁ c ≡ gatheredInside n me l s → s₂ ≡ up n PE s₁ me p
+      → outside l₁ s₂ (record { start = p; count = c; free = lim; base = base; made = made; collected = 0 }) ≡ gatheredAlone n me base lim made l s
   unfolding gatheredAlone
-  alone-step p l₁ s₁ c hp hg = rw (← hp, ← hg)
+  alone-step p l₁ s₁ c s₂ hp hg hs = rw (← hp, ← hg, hs)
 
   module _ (k : ℕ) (hk : k ≡ rd n ELEN s me) (x : Outside) where
     pub some-step : x ≡ gatheredWith n me k base lim made l s → 0 < k → x ≡ gathered n me base lim made l s

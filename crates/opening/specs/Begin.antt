@@ -36,7 +36,7 @@ gatheredWith n me k base lim made l s =
 unfoldable pub gatheredAlone : ℕ → ℕ → ℕ → ℕ → ℕ → List ℤ → List ℤ → Outside
 gatheredAlone n me base lim made l s =
     let o = gatheredInside n me l s in
-    outside (o .lists) (o .mem) (record { start = rd n PE s me; count = o .count; free = lim; base = base; made = made; collected = 0 })
+    outside (o .lists) (up n PE (o .mem) me (rd n PE s me)) (record { start = rd n PE s me; count = o .count; free = lim; base = base; made = made; collected = 0 })
 
 unfoldable pub gathered : ℕ → ℕ → ℕ → ℕ → ℕ → List ℤ → List ℤ → Outside
 gathered n me base lim made l s =

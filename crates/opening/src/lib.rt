@@ -198,7 +198,7 @@ fn gather_with(
     r
 }
 
-// The new element of a pivot without elements, in its own place.
+// The new element of a pivot without elements, in its own place, which is stored anew: whoever asks for a parent there finds none.
 fn gather_alone(
     lists: &mut [i64],
     s: &mut [i64],
@@ -213,6 +213,7 @@ fn gather_alone(
 {
     let p = cells::rd(s, n, cells::PE, me);
     let c = packed::gather_in_place(lists, s, n, me);
+    cells::up(s, n, cells::PE, me, p);
     packed::Made {
         start: p,
         count: c,

@@ -5,6 +5,7 @@ use Rattle.opening.proofs.gather_alone.Tie as tie
 use Rattle.opening.proofs.gather_alone.Reads as reads
 use Rattle.opening.proofs.gather_alone.Lts as lts
 use Rattle.cells.proofs.rd.Reads as rd-reads
+use Rattle.cells.proofs.up.Reads as up-reads
 use Rattle.packed.proofs.gather_in_place.Reads as gather-in-place-reads
 
 rd-requires : tie.Need-rd-requires
@@ -12,6 +13,9 @@ rd-requires c κs = search needs
 
 gather-in-place-requires : tie.Need-gather-in-place-requires
 gather-in-place-requires c κs = search needs
+
+up-requires : tie.Need-up-requires
+up-requires c κs = search needs
 
 same-length : tie.Need-same-length
 same-length c = search needs
@@ -28,6 +32,7 @@ gather-alone-spec =
     (tie.spec
     rd-requires
     gather-in-place-requires
+    up-requires
     same-length
     same-length-2
     returns)
