@@ -4,3 +4,5 @@ pub mod Kept
 pub mod Rows
 pub mod Opening
 pub mod Taking
+pub mod Shown
+pub mod Gathering
