@@ -6,3 +6,4 @@ pub mod Opening
 pub mod Taking
 pub mod Shown
 pub mod Gathering
+pub mod Pivoting
