@@ -61,6 +61,26 @@ pub record Collects (n : ℕ) (g : Graph) (p : ℕ) (l s : List ℤ) (x : Outsid
   pub taken : (i : ℕ) → In i (elementsOf g p) → parent n (x .mem) i ≡ some p
   pub others : (i : ℕ) → i ≢ p → member i (elementsOf g p) ≡ false → rd n LEN (x .mem) i ≡ 0 → parent n (x .mem) i ≡ parent n s i
 
+-- the new element of a pivot with elements is the last of the order and the last of the space, and the room is the definition's
+pub record Last (n : ℕ) (g : Graph) (p : ℕ) (l s : List ℤ) (made : ℕ) (rm : definition.Room) (x : Outside) : Type 0 where
+  pub turns : x .made .made ≡ suc made
+  pub behind : (i c : ℕ) → i ≢ p → Owns (places n (x .mem)) i c → c < x .made .start
+  pub wide : x .made .base ≤ x .made .start
+  pub free : x .made .free ≡ x .made .start + x .made .count
+  pub order : (i : ℕ) → i ≢ made → rd n ORD (x .mem) i ≡ rd n ORD s i
+  pub last : rd n ORD (x .mem) made ≡ p
+  pub stored : (definition.stored (length l) g p rm .room .free ≡ x .made .free) × (definition.stored (length l) g p rm .room .collections ≡ rm .collections + x .made .collected)
+  pub shrinks : (k : ℕ) → definition.shrunk (definition.stored (length l) g p rm) k ≡ record { free = x .made .start + k; collections = rm .collections + x .made .collected }
+
+-- that of a pivot without is in the pivot's place, and the order and the room are as before
+pub record Same (n p : ℕ) (s : List ℤ) (made base lim : ℕ) (x : Outside) : Type 0 where
+  pub start : x .made .start ≡ rd n PE s p
+  pub turns : x .made .made ≡ made
+  pub low : x .made .base ≡ base
+  pub free : x .made .free ≡ lim
+  pub order : (i : ℕ) → rd n ORD (x .mem) i ≡ rd n ORD s i
+  pub collected : x .made .collected ≡ 0
+
 module _ (n : ℕ) (l s : List ℤ) (t : State) (inv : Inv n t) (wd : Weighed t) (p : ℕ) (pv : Var (t .graph) p) (made base lim : ℕ) (small : n < 2 ^ 63) (narrow : length l < 2 ^ 63)
     (space : Space n (listOf (t .graph)) l s made base lim)
     (want : (v : ℕ) → v < n → rd n WANT s v ≡ cond (isVariable (kind (t .graph) v) && not (eqb v p)) (weight (t .graph) v) 0)
@@ -123,6 +143,18 @@ module _ (n : ℕ) (l s : List ℤ) (t : State) (inv : Inv n t) (wd : Weighed t)
         same-lists : (i : ℕ) → (i ≡ p) ⊎ (i ≢ p) → upd X p new i ≡ upd (except X es []) p new i
         same-lists i (inl e) = rw e (upd-same X p new ∙ sym (upd-same (except X es []) p new))
         same-lists i (inr d) = upd-other X p new i d ∙ sym (ap (λ (b : Bool). cond b [] (X i)) (none-of i)) ∙ sym (upd-other (except X es []) p new i d)
+
+    pub alone-same : Same n p s made base lim (gatheredAlone n p base lim made l s)
+    unfolding gatheredAlone
+    alone-same =
+        record {
+          start = refl;
+          turns = refl;
+          low = refl;
+          free = refl;
+          order = λ i. let z : rd n ORD (up n PE (o .mem) p (rd n PE s p)) i ≡ rd n ORD (o .mem) i = simp mem in z ∙ r .fields ORD i refl refl refl;
+          collected = refl;
+        }
 
   -- ---- a pivot with elements
 
@@ -216,6 +248,26 @@ module _ (n : ℕ) (l s : List ℤ) (t : State) (inv : Inv n t) (wd : Weighed t)
         empty-is [] z = refl
         empty-is (y ∷ ys) z = absurd (omega arith)
 
+    owns-was : (i c : ℕ) → Owns (places n (absorbedAll n p k (x .mem))) i c → Owns (places n (x .mem)) i c
+    owns-was i c o =
+        let z = len-same i in
+        let y = ab .places i (not-taken i (omega (arith, o .from, o .to))) in
+        record { from = omega (arith, y, o .from); to = omega (arith, y, z, o .to) }
+
+    pub with-last : Last n (t .graph) p l s made rm (gatheredWith n p (rd n ELEN s p) base lim made l s)
+    unfolding gatheredWith
+    with-last =
+        record {
+          turns = gd .turns;
+          behind = λ i c d o. gd .others i c d (owns-was i c o);
+          wide = gd .wide;
+          free = omega (arith, gd .free, gd .count);
+          order = λ i d. ab .fields ORD i refl refl ∙ gd .order i d ∙ sv .fields ORD i refl;
+          last = ab .fields ORD made refl refl ∙ gd .last;
+          stored = agrees .after;
+          shrinks = agrees .shrinks;
+        }
+
     empty-list : (xs : List ℕ) → length xs ≤ 0 → xs ≡ []
     empty-list [] z = refl
     empty-list (y ∷ ys) z = absurd (omega arith)
@@ -228,3 +280,11 @@ module _ (n : ℕ) (l s : List ℤ) (t : State) (inv : Inv n t) (wd : Weighed t)
 
     pub collects : Collects n (t .graph) p l s (gathered n p base lim made l s)
     collects = gather-by (split 0 (rd n ELEN s p))
+
+    pub lasts : 0 < length (elementsOf (t .graph) p) → Last n (t .graph) p l s made rm (gathered n p base lim made l s)
+    unfolding gathered
+    lasts h = rw (lt-ltb 0 (rd n ELEN s p) (omega (arith, elen))) with-last
+
+    pub same-still : elementsOf (t .graph) p ≡ [] → Same n p s made base lim (gathered n p base lim made l s)
+    unfolding gathered
+    same-still e = rw (le-ltb 0 (rd n ELEN s p) (omega (arith, elen, ap length e))) (alone-same e)

@@ -40,12 +40,12 @@ use Rattle.chain.specs.Model.{removed, removedAll}
 use Rattle.packed.proofs.Frame.{len-of}
 use Rattle.packed.proofs.Spaces.{space-same}
 use Rattle.packed.specs.Gather.{Outside}
-use Rattle.packed.specs.Places.{Space, places}
+use Rattle.packed.specs.Places.{Owns, Space, places}
 use Rattle.drawn.specs.Drawn.{Drawn, Rest, Within, listOf}
 use Rattle.drawn.specs.Flags.{Flagged}
 use Rattle.drawn.specs.Log.{Logged}
 use Rattle.opening.specs.Begin as begin
-use Rattle.opening.proofs.Gathering.{Collects, collects}
+use Rattle.opening.proofs.Gathering.{Collects, Last, Same, collects, lasts, same-still}
 use Rattle.opening.proofs.Shown.{degree-passed, elements-passed, kind-passed, parent-now, variables-passed, weight-passed}
 
 module _ (n : ℕ) (l s : List ℤ) (t : State) (inv : Inv n t) (wd : Weighed t) (p d : ℕ) (which : pivot t ≡ found p d) (made base lim : ℕ) (small : n < 2 ^ 63)
@@ -280,3 +280,43 @@ module _ (n : ℕ) (l s : List ℤ) (t : State) (inv : Inv n t) (wd : Weighed t)
   pub begun-long : length (begin.pivoted n p base lim made l s .lists) ≡ length l
   unfolding begin.pivoted
   begun-long = c .long
+
+  -- ---- the room and the order
+
+  moved-owns : (i o : ℕ) → Owns (places n s₅) i o → Owns (places n (x .mem)) i o
+  moved-owns i o h =
+      let y = after PE i refl refl refl in
+      let z = after LEN i refl refl refl in
+      record { from = omega (arith, y, h .from); to = omega (arith, y, z, h .to) }
+
+  -- of a pivot with elements
+  pub begun-last : 0 < length (elementsOf (t .graph) p) → Last n (t .graph) p l s made rm (begin.pivoted n p base lim made l s)
+  unfolding begin.pivoted
+  begun-last h =
+      let a = lasts n l s₂ t inv wd p pv made base lim small narrow space₂ want₂ (same₂ ELEN p refl refl refl refl ∙ dr .elens p pv) turns
+      (λ i k e. fresh i k (sym (same₂ ORD i refl refl refl refl) ∙ e)) room rm at-lim h in
+      record {
+        turns = a .turns;
+        behind = λ i o e q. a .behind i o e (moved-owns i o q);
+        wide = a .wide;
+        free = a .free;
+        order = λ i e. after ORD i refl refl refl ∙ a .order i e ∙ same₂ ORD i refl refl refl refl;
+        last = after ORD made refl refl refl ∙ a .last;
+        stored = a .stored;
+        shrinks = a .shrinks;
+      }
+
+  -- of one without
+  pub begun-same : elementsOf (t .graph) p ≡ [] → Same n p s made base lim (begin.pivoted n p base lim made l s)
+  unfolding begin.pivoted
+  begun-same h =
+      let a = same-still n l s₂ t inv wd p pv made base lim small narrow space₂ want₂ (same₂ ELEN p refl refl refl refl ∙ dr .elens p pv) turns
+      (λ i k e. fresh i k (sym (same₂ ORD i refl refl refl refl) ∙ e)) room rm at-lim h in
+      record {
+        start = a .start ∙ same₂ PE p refl refl refl refl;
+        turns = a .turns;
+        low = a .low;
+        free = a .free;
+        order = λ i. after ORD i refl refl refl ∙ a .order i ∙ same₂ ORD i refl refl refl refl;
+        collected = a .collected;
+      }
