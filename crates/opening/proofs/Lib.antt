@@ -7,3 +7,4 @@ pub mod Taking
 pub mod Shown
 pub mod Gathering
 pub mod Pivoting
+pub mod Turns
