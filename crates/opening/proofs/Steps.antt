@@ -70,6 +70,9 @@ pub absorb-at-step : (n me t : ℕ) (s : List ℤ) (e : ℕ) (r : List ℤ) → 
 unfolding absorbedOne
 absorb-at-step n me t s e r he hr = rw (← he) hr
 
+pub leave-step : (n me : ℕ) (s t r : List ℤ) → t ≡ removed n s me → r ≡ up n WANT t me 0 → r ≡ up n WANT (removed n s me) me 0
+leave-step n me s t r ht hr = rw (← ht) hr
+
 module _ (n me base lim made : ℕ) (l s : List ℤ) where
   pub with-step : (k p : ℕ) (s₁ l₂ s₂ s₃ : List ℤ) (r : Made) → p ≡ rd n PE s me → s₁ ≡ savedAll n l p k s
       → outside l₂ s₂ r ≡ gatheredOutside n me base lim made l s₁ → s₃ ≡ absorbedAll n me k s₂ → outside l₂ s₃ r ≡ gatheredWith n me k base lim made l s
@@ -90,7 +93,7 @@ module _ (n me base lim made : ℕ) (l s : List ℤ) where
     unfolding gathered
     none-step hx b = rw (← hk, le-ltb 0 k b) hx
 
-  pub pivot-step : (s₁ s₂ l₃ s₃ s₄ : List ℤ) (r : Made) → s₁ ≡ removed n s me → s₂ ≡ up n WANT s₁ me 0 → outside l₃ s₃ r ≡ gathered n me base lim made l s₂
+  pub pivot-step : (s₂ l₃ s₃ s₄ : List ℤ) (r : Made) → s₂ ≡ up n WANT (removed n s me) me 0 → outside l₃ s₃ r ≡ gathered n me base lim made l s₂
       → s₄ ≡ removedAll l₃ n (r .start) (r .count) s₃ → outside l₃ s₄ r ≡ pivoted n me base lim made l s
   unfolding pivoted
-  pivot-step s₁ s₂ l₃ s₃ s₄ r h₁ h₂ h₃ h₄ = rw (← h₁, ← h₂, ← h₃, h₄)
+  pivot-step s₂ l₃ s₃ s₄ r h₂ h₃ h₄ = rw (← h₂, ← h₃, h₄)

@@ -4,7 +4,8 @@
 ghost use mathlib.Core.Path.{_≡_};
 ghost use Prim.Native.Nat.{_+_, _<_, _^_};
 ghost use Rattle.cells.specs.View.{Room, at, rd, up};
-ghost use Rattle.cells.specs.Layout.{HNEXT};
+ghost use Rattle.cells.specs.Layout.{HNEXT, WANT};
+ghost use Rattle.chain.specs.Model.{removed, removedAll};
 ghost use Rattle.packed.specs.Gather.{outside, Brief};
 ghost use Rattle.opening.specs.Start.{weighed, marked, begun, begunAll, rooted, leftOut, setting, Slight, setOne, setAll, opened};
 ghost use Rattle.opening.specs.Begin.{savedAll, absorbed, absorbedOne, absorbedAll, gatheredWith, gatheredAlone, gathered, pivoted};
@@ -245,6 +246,23 @@ fn gather(
     }
 }
 
+// The pivot `me` leaves its degree list and is wanted no more.
+fn leave(s: &mut [i64], n: usize, me: usize)
+    requires { ⌜ Room n (now s) ⌝ }
+    ensures { λ _. ⌜ (now (s .exit) ≡ up n WANT (removed n (now (s .entry)) me) me 0) × Room n (now (s .exit)) ⌝ }
+{
+    chain::take_out(s, n, me);
+    cells::up(s, n, cells::WANT, me, 0);
+}
+
+// The collected rows, in the `k` cells from `from` on, leave their degree lists.
+fn leave_all(lists: &[i64], s: &mut [i64], n: usize, from: usize, k: usize)
+    requires { ⌜ Room n (now s) × (from < 2 ^ 63) × (k < 2 ^ 63) ⌝ }
+    ensures { λ _. ⌜ (now (s .exit) ≡ removedAll (now (lists .entry)) n from k (now (s .entry))) × Room n (now (s .exit)) ⌝ }
+{
+    chain::take_all(lists, s, n, from, k);
+}
+
 // The pivot `me` leaves its degree list and is wanted no more, its new element is gathered, and the collected rows leave their degree lists.
 pub fn begin_pivot(
     lists: &mut [i64],
@@ -258,9 +276,8 @@ pub fn begin_pivot(
     requires { ⌜ Room n (now s) × (me < 2 ^ 63) × (lim < 2 ^ 63) × (made < 2 ^ 63) ⌝ }
     ensures { λ r. ⌜ (outside (now (lists .exit)) (now (s .exit)) r ≡ pivoted n me base lim made (now (lists .entry)) (now (s .entry))) × Room n (now (s .exit)) × Brief r ⌝ }
 {
-    chain::take_out(s, n, me);
-    cells::up(s, n, cells::WANT, me, 0);
+    leave(s, n, me);
     let r = gather(lists, s, n, me, base, lim, made);
-    chain::take_all(lists, s, n, r.start, r.count);
+    leave_all(lists, s, n, r.start, r.count);
     r
 }

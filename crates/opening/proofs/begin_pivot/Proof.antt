@@ -4,22 +4,18 @@ use Rattle.opening.proofs.begin_pivot.Statement.{statement}
 use Rattle.opening.proofs.begin_pivot.Tie as tie
 use Rattle.opening.proofs.begin_pivot.Reads as reads
 use Rattle.opening.proofs.begin_pivot.Lts as lts
-use Rattle.chain.proofs.take_out.Reads as take-out-reads
-use Rattle.cells.proofs.up.Reads as up-reads
+use Rattle.opening.proofs.leave.Reads as leave-reads
 use Rattle.opening.proofs.gather.Reads as gather-reads
-use Rattle.chain.proofs.take_all.Reads as take-all-reads
+use Rattle.opening.proofs.leave_all.Reads as leave-all-reads
 
-take-out-requires : tie.Need-take-out-requires
-take-out-requires c κs = search needs
-
-up-requires : tie.Need-up-requires
-up-requires c κs = search needs
+leave-requires : tie.Need-leave-requires
+leave-requires c κs = search needs
 
 gather-requires : tie.Need-gather-requires
 gather-requires c κs = search needs
 
-take-all-requires : tie.Need-take-all-requires
-take-all-requires c κs = search needs
+leave-all-requires : tie.Need-leave-all-requires
+leave-all-requires c κs = search needs
 
 same-length : tie.Need-same-length
 same-length c = search needs
@@ -31,13 +27,4 @@ returns : tie.Need-returns
 returns c = search (needs, pivot-step)
 
 pub begin-pivot-spec : {M : Type 1} → statement M
-begin-pivot-spec =
-    tie.close
-    (tie.spec
-    take-out-requires
-    up-requires
-    gather-requires
-    take-all-requires
-    same-length
-    same-length-2
-    returns)
+begin-pivot-spec = tie.close (tie.spec leave-requires gather-requires leave-all-requires same-length same-length-2 returns)
