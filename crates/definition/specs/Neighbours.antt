@@ -27,7 +27,7 @@ unfoldable pub skip : ℕ → List ℕ → List ℕ
 skip k [] = []
 skip k (x ∷ xs) = consIf (not (eqb x k)) x xs
 
--- the rows of a column above the diagonal, and those below
+-- the rows of a column above the diagonal, or of what waits those before k
 unfoldable pub above : ℕ → List ℕ → List ℕ
 above k col = leading (λ i. ltb i k) col
 

@@ -85,25 +85,28 @@ hasWeight g v = ltb 0 (weight g v)
 abbrev pub live : Graph → ℕ → Bool
 live g e = isNone (parent g e)
 
--- tests of a kind
+-- an active variable
 abbrev pub isVariable : Kind → Bool
 isVariable variable = true
 isVariable merged = false
 isVariable element = false
 isVariable dense = false
 
+-- merged into another row
 abbrev pub isMerged : Kind → Bool
 isMerged variable = false
 isMerged merged = true
 isMerged element = false
 isMerged dense = false
 
+-- an element, taken up or not
 abbrev pub isElement : Kind → Bool
 isElement variable = false
 isElement merged = false
 isElement element = true
 isElement dense = false
 
+-- left unordered
 abbrev pub isDense : Kind → Bool
 isDense variable = false
 isDense merged = false

@@ -35,11 +35,12 @@ module _ {A : Type 0} where
   keep p [] = []
   keep p (x ∷ xs) = consIf (p x) x (keep p xs)
 
-  -- the elements before the first that fails the test, and those from it on
+  -- the elements before the first that fails the test
   unfoldable pub leading : (A → Bool) → List A → List A
   leading p [] = []
   leading p (x ∷ xs) = cond (p x) (x ∷ leading p xs) []
 
+  -- and those from it on
   unfoldable pub trailing : (A → Bool) → List A → List A
   trailing p [] = []
   trailing p (x ∷ xs) = cond (p x) (trailing p xs) (x ∷ xs)
