@@ -2,3 +2,4 @@
 pub mod Drawn
 pub mod Flags
 pub mod Log
+pub mod Buckets

@@ -27,7 +27,8 @@ use Rattle.facts.proofs.Absorbing.{light-first, light-second}
 use Rattle.facts.proofs.Merging.{weight-kept}
 use Rattle.facts.specs.Classes.{bucketOf, mergeBuckets}
 use Rattle.packed.proofs.Picked.{foldl-append}
-use Rattle.merging.specs.Bucketed.{Chain, Now, Row}
+use Rattle.drawn.specs.Buckets.{Chain}
+use Rattle.merging.specs.Rows.{Now, Row}
 use Rattle.merging.specs.Model.{Merging, bucketRun, mergedKey, mergedOf, merging}
 use Rattle.merging.specs.declared.Tally.{Tally}
 use Rattle.merging.proofs.Ran.{Ready, ran}

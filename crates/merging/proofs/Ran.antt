@@ -20,7 +20,8 @@ use Rattle.cells.specs.View.{plus, rd}
 use Rattle.definition.specs.Merge.{alike, entriesOf, key, mergeAll, mergeOne, sameLists}
 use Rattle.definition.specs.State.{Graph, mergeInto}
 use Rattle.facts.proofs.Absorbing.{absorbing, fold-chosen}
-use Rattle.merging.specs.Bucketed.{Chain, Now, Row}
+use Rattle.drawn.specs.Buckets.{Chain}
+use Rattle.merging.specs.Rows.{Now, Row}
 use Rattle.merging.specs.Model.{Comparing, Merging, bucketRun, comparing, flagged, followers, markedList, mergedAt, mergedInto, merging, walked}
 use Rattle.merging.specs.declared.Tally.{Tally}
 use Rattle.merging.proofs.Marks.{held-rest, mark-below, markAll, marking-all, marks, marks-field}

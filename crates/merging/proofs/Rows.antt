@@ -27,7 +27,7 @@ use Rattle.facts.proofs.Merging.{kind-kept, parent-kept, part-moved, weight-int
 use Rattle.facts.proofs.Sizes.{sized-mergeInto}
 use Rattle.facts.specs.Invariant.{Sized}
 use Rattle.packed.proofs.Spaces.{space-field}
-use Rattle.merging.specs.Bucketed.{Now, Row}
+use Rattle.merging.specs.Rows.{Now, Row}
 use Rattle.merging.specs.Model.{joined}
 use Rattle.merging.proofs.Joins.{join-drawn}
 use Rattle.merging.proofs.Logs.{len-more, log-short, logged-field, logged-join}

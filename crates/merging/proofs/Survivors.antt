@@ -25,7 +25,8 @@ use Rattle.facts.proofs.Stepped.{afterMerge, afterTrim, elements2, inside, isMa
 use Rattle.facts.proofs.Weights.{compared-mass, distinct-entries, entry}
 use Rattle.facts.specs.Classes.{newestFirst}
 use Rattle.facts.specs.Invariant.{Quotient, Var}
-use Rattle.merging.specs.Bucketed.{Bucketed, Row}
+use Rattle.drawn.specs.Buckets.{Bucketed}
+use Rattle.merging.specs.Rows.{Row}
 use Rattle.merging.specs.Model.{mergedRows, merging}
 use Rattle.merging.specs.declared.Tally.{Tally}
 use Rattle.merging.proofs.Theorem.{Merged, step}

@@ -28,7 +28,8 @@ use Rattle.drawn.specs.Log.{Logged}
 use Rattle.facts.proofs.Buckets.{merged-buckets}
 use Rattle.facts.specs.Classes.{bucketOf, mergeBuckets, newestFirst}
 use Rattle.facts.specs.Invariant.{Sized}
-use Rattle.merging.specs.Bucketed.{Bucketed, Chain, Row}
+use Rattle.drawn.specs.Buckets.{Bucketed, Chain}
+use Rattle.merging.specs.Rows.{Row}
 use Rattle.merging.specs.Model.{Merging, mergedOf, mergedRow, mergedRows, merging}
 use Rattle.merging.specs.declared.Tally.{Tally}
 use Rattle.merging.proofs.Emptied.{Through, counted-all, every-row}

@@ -20,7 +20,8 @@ use Rattle.cells.specs.Layout.{HNEXT, LEN, MERGES, NV, PE, W}
 use Rattle.cells.specs.View.{Room, plus, rd, up}
 use Rattle.definition.specs.Merge.{alike, entriesOf, key, mergeOne, sameLists}
 use Rattle.definition.specs.State.{Graph, mergeInto, putKind, putParent, putReps, putWeight}
-use Rattle.merging.specs.Bucketed.{Chain, Now, Row}
+use Rattle.drawn.specs.Buckets.{Chain}
+use Rattle.merging.specs.Rows.{Now, Row}
 use Rattle.merging.specs.Model.{Comparing, alikeNow, compared, comparing, followers, joined, passedNext, takenNext}
 use Rattle.merging.proofs.Joins.{join-field, join-room}
 use Rattle.merging.proofs.Marks.{Marked, alike-same}

@@ -1,3 +1,3 @@
 -- The definitions that the contracts and the theorems of `merging` cite.
 pub mod Model
-pub mod Bucketed
+pub mod Rows

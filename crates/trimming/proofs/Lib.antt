@@ -10,3 +10,4 @@ pub mod Relisting
 pub mod Massing
 pub mod Refinement
 pub mod Rowwise
+pub mod Done

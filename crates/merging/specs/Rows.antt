@@ -1,4 +1,4 @@
--- The buckets of step 5 in memory: the rows of one key, newest first, along the links; and what step 5 asks of the rows that it compares.
+-- What step 5 asks of the rows that it compares, and of the memory.
 -- Assumes nothing.
 use Prim.Native.Nat.{ℕ, _<_, _^_}
 use mathlib.Core.Bool.{true}
@@ -17,17 +17,6 @@ use Rattle.drawn.specs.Drawn.{Within}
 use Rattle.drawn.specs.Log.{Logged}
 use Rattle.facts.specs.Classes.{bucketOf, newestFirst}
 use Rattle.facts.specs.Invariant.{Sized}
-
--- from x on, by the links nx, the rows are l; n is the end
-abbrev pub Chain : ℕ → (ℕ → ℕ) → ℕ → List ℕ → Type 0
-Chain n nx x [] = x ≡ n
-Chain n nx x (i ∷ l) = (x ≡ i) × (i < n) × Chain n nx (nx i) l
-
--- step 4 leaves each kept row in the bucket of its key
-pub record Bucketed (n : ℕ) (s : List ℤ) (keyOf : ℕ → ℕ) (g : Graph) (new : List ℕ) : Type 0 where
-  pub bucket : (k : ℕ) → k < n → Chain n (rd n HNEXT s) (rd n HHEAD s k) (bucketOf (key keyOf g) (newestFirst g new) k)
-  pub keys : (v : ℕ) → In v (newestFirst g new) → rd n HKEY s v ≡ key keyOf g v
-  pub below : (v : ℕ) → In v (newestFirst g new) → key keyOf g v < n
 
 -- a row that step 5 compares: a variable of the new element, whose list begins with it
 pub record Row (n p : ℕ) (new : List ℕ) (h : Graph) (v : ℕ) : Type 0 where
