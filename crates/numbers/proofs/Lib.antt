@@ -9,3 +9,4 @@ pub mod Bounds
 pub mod Signed
 pub mod Growth
 pub mod Totals
+pub mod Rooms

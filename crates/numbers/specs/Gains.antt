@@ -1,7 +1,10 @@
 -- The statistics as they grow, element by element; proofs/Growth shows that they end as the definition's.
 -- Assumes nothing.
 use Prim.Native.Nat.{ℕ, _+_, _≤_, _^_, max}
+use mathlib.Core.Bool.{Bool, cond, _&&_}
 use mathlib.Core.List.{List, foldl}
+use lib.Dec.{leb}
+use Rattle.definition.specs.Limits.{baseLimits}
 use Rattle.definition.specs.State.{Front}
 use Rattle.definition.specs.Statistics.{gainQ, gainS, gainLdl}
 use Rattle.definition.specs.Outcome as Outcomes
@@ -38,6 +41,14 @@ counted count x = record {
   dMax = x .dMax;
   nCmpA = count;
 }
+
+-- the same as a test
+unfoldable pub roomy : Outcomes.Statistics → Bool
+roomy x = leb (x .lnz) (2 ^ 62) && leb (x .nDiv) (2 ^ 62) && leb (x .nMultSubsLdl) (2 ^ 62) && leb (x .nMultSubsLu) (2 ^ 62)
+
+-- after an element, if it is one that an accepted pattern can have
+unfoldable pub addedElement : ℕ → ℕ → Outcomes.Statistics → Outcomes.Statistics
+addedElement f r x = cond (leb (f + r) (baseLimits .mostColumns) && roomy x) (gained f r x) x
 
 -- totals to which one more element can be added: none comes near 2 ^ 64
 pub record Small (s : Statistics) : Type 0 where

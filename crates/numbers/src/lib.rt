@@ -3,7 +3,7 @@ ghost use mathlib.Core.Path.{_≡_};
 ghost use mathlib.Core.Bool.{false};
 ghost use mathlib.Core.List.{[]};
 ghost use mathlib.Core.Option.{some};
-ghost use Prim.Native.Nat.{_+_, _≤_, _^_, min, max};
+ghost use Prim.Native.Nat.{_+_, _<_, _≤_, _^_, min, max};
 ghost use lib.Dec.{leb};
 ghost use lib.IntN.{pos};
 ghost use Rattle.plain.specs.Lists.{isNone};
@@ -13,7 +13,7 @@ ghost use Rattle.definition.specs.Threshold.{multiplier, ruleOf, start, thresho
 ghost use Rattle.definition.specs.Statistics.{gainQ, gainS, noSix};
 ghost use Rattle.definition.specs.Outcome.{seven, refused};
 ghost use Rattle.numbers.specs.Meaning.{answerMeant, ruleMeant, Accepted, statisticsMeant, outcomeMeant};
-ghost use Rattle.numbers.specs.Gains.{begun, gained, counted, Small};
+ghost use Rattle.numbers.specs.Gains.{begun, gained, roomy, addedElement, counted, Small};
 
 pub struct Settings {
     pub multiplier: f64,
@@ -257,12 +257,33 @@ pub fn with_element(s: Statistics, f: usize, r: usize) -> Statistics
     }
 }
 
-// The dense block counts as one last element with nothing below.
-pub fn with_dense(s: Statistics, count: usize) -> Statistics
-    requires { ⌜ Small s × (count ≤ baseLimits .mostColumns) ⌝ }
-    ensures { λ t. ⌜ statisticsMeant t ≡ gained count 0 (statisticsMeant s) ⌝ }
+// Have the totals room for one more element?
+fn roomy(s: Statistics) -> bool
+    ensures { λ r. ⌜ r ≡ roomy (statisticsMeant s) ⌝ }
 {
-    with_element(s, count, 0)
+    if 0x4000_0000_0000_0000 < s.lnz {
+        return false;
+    }
+    if 0x4000_0000_0000_0000 < s.n_div {
+        return false;
+    }
+    if 0x4000_0000_0000_0000 < s.n_mult_subs_ldl {
+        return false;
+    }
+    s.n_mult_subs_lu <= 0x4000_0000_0000_0000
+}
+
+// The same of any numbers: an element that no accepted pattern has is not counted.
+pub fn add_element(s: Statistics, f: usize, r: usize) -> Statistics
+    requires { ⌜ (f < 2 ^ 63) × (r < 2 ^ 63) ⌝ }
+    ensures { λ t. ⌜ statisticsMeant t ≡ addedElement f r (statisticsMeant s) ⌝ }
+{
+    if f + r <= 100_000 {
+        if roomy(s) {
+            return with_element(s, f, r);
+        }
+    }
+    s
 }
 
 // With the collections that happened.

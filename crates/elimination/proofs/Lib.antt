@@ -1,0 +1,1 @@
+-- The modules of `elimination` that belong to no one function.

@@ -1,0 +1,3 @@
+-- The definitions that the contracts of `elimination` cite, and what its theorems say of the memory.
+pub mod Model
+pub mod Runs
