@@ -11,3 +11,7 @@ pub mod Massing
 pub mod Refinement
 pub mod Rowwise
 pub mod Done
+pub mod Due
+pub mod Staying
+pub mod Leaving
+pub mod Carried
