@@ -1,1 +1,2 @@
 -- The modules of `elimination` that belong to no one function.
+pub mod Steps
