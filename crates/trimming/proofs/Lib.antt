@@ -11,3 +11,7 @@ pub mod Massing
 pub mod Refinement
 pub mod Rowwise
 pub mod Done
+pub mod GraphLists
+pub mod GraphMatch
+pub mod GraphBounds
+pub mod GraphReady
