@@ -6,12 +6,12 @@ use mathlib.Core.Bool.{Bool, true, false, cond, not, _&&_}
 use mathlib.Core.List.{List, [], _∷_}
 use mathlib.Core.Option.{some}
 use mathlib.Core.Path.{_∙_, _≡_, ap, refl, sym}
-use borrow.Author.Tests.{eq-eqb, eqb-true, lt-ltb}
+use borrow.Author.Tests.{eq-eqb, eqb-true, lt-ltb, ltb-true}
 use lib.Dec.{eqb, ltb}
 use lib.IntN.{ℤ}
 use lib.ListN.{getD}
 use Rattle.plain.proofs.Logic.{bool-ext}
-use Rattle.plain.proofs.Members.{keep-same}
+use Rattle.plain.proofs.Members.{keep-same, member-keep, not-kept}
 use Rattle.plain.proofs.Parts.{flatMap-same}
 use Rattle.plain.specs.Lists.{isNone, keep, member}
 use Rattle.plain.specs.Members.{In}
@@ -74,7 +74,7 @@ goes-is : (aggressive alive : Bool) (flag x : ℕ) → 0 < flag → goes aggress
 goes-is aggressive true flag x b = rw (counts true flag x b, is-flag flag x)
 goes-is aggressive false flag x b = refl
 
-module _ {n : ℕ} {st : State} {p : ℕ} {l s : List ℤ} {cnt base lim flag : ℕ} (b : Ready n st p l s cnt base lim flag) (aggressive : Bool) where
+module _ {n : ℕ} {st : State} {p : ℕ} {l s : List ℤ} {cnt base lim flag : ℕ} (b : Ready n st p l s cnt base lim flag) where
   abbrev g : Graph
   g = st .graph
 
@@ -89,22 +89,6 @@ module _ {n : ℕ} {st : State} {p : ℕ} {l s : List ℤ} {cnt base lim flag : 
 
   pub row : (i : ℕ) → In i (collected (st .graph) p) → Var (st .graph) i
   row i m = collected-var (b .inv .graph) p (b .var) i m
-
-  -- ---- the elements
-
-  pub kept-elements : (i : ℕ) → In i (collected (st .graph) p)
-      → keptE n flag aggressive s (elementsOf (passed (st .graph) p) i) ≡ keptElements aggressive (passed (st .graph) p) (collected (st .graph) p) i
-  unfolding keptElements
-  kept-elements i m =
-      keep-same (λ e. stays aggressive flag (rd n W s e)) (λ e. live g₁ e && not (swallowed aggressive g₁ new e)) (elementsOf g₁ i)
-      (λ e me. ap (stays aggressive flag) (b .marks e i m me) ∙ stays-is aggressive (live g₁ e) flag (external g₁ new e) (b .flags))
-
-  pub gone-elements : (i : ℕ) → In i (collected (st .graph) p)
-      → goneE n flag aggressive s (elementsOf (passed (st .graph) p) i) ≡ droppedElements aggressive (passed (st .graph) p) (collected (st .graph) p) i
-  unfolding droppedElements
-  gone-elements i m =
-      keep-same (λ e. goes aggressive flag (rd n W s e)) (λ e. live g₁ e && swallowed aggressive g₁ new e) (elementsOf g₁ i)
-      (λ e me. ap (goes aggressive flag) (b .marks e i m me) ∙ goes-is aggressive (live g₁ e) flag (external g₁ new e) (b .flags))
 
   -- ---- the variables
 
@@ -132,24 +116,58 @@ module _ {n : ℕ} {st : State} {p : ℕ} {l s : List ℤ} {cnt base lim flag : 
   kept-variables i m =
       keep-same (λ w. ltb 0 (rd n WANT s w)) (λ w. hasWeight g₁ w && not (member w (p ∷ new))) (variablesOf g₁ i) (λ w mw. wanted i w m mw)
 
-  -- ---- who keeps nothing, and which elements go
+  -- ---- the elements
 
-  pub kept-some : (i : ℕ) → In i (collected (st .graph) p)
-      → ltb 0 (kept n p flag aggressive s (elementsOf (passed (st .graph) p)) (variablesOf (passed (st .graph) p)) i) ≡ not (isMass aggressive (st .graph) p i)
-  kept-some i m = rw (kept-elements i m, kept-variables i m) (some-length (keptElements aggressive g₁ new i) (keptVariables g₁ p new i))
+  module _ (aggressive : Bool) where
+    pub kept-elements : (i : ℕ) → In i (collected (st .graph) p)
+        → keptE n flag aggressive s (elementsOf (passed (st .graph) p) i) ≡ keptElements aggressive (passed (st .graph) p) (collected (st .graph) p) i
+    unfolding keptElements
+    kept-elements i m =
+        keep-same (λ e. stays aggressive flag (rd n W s e)) (λ e. live g₁ e && not (swallowed aggressive g₁ new e)) (elementsOf g₁ i)
+        (λ e me. ap (stays aggressive flag) (b .marks e i m me) ∙ stays-is aggressive (live g₁ e) flag (external g₁ new e) (b .flags))
 
-  pub mass-is : mass n p flag aggressive s (elementsOf (passed (st .graph) p)) (variablesOf (passed (st .graph) p)) (collected (st .graph) p)
-      ≡ keep (isMass aggressive (st .graph) p) (collected (st .graph) p)
-  mass-is =
-      keep-same (λ i. not (ltb 0 (kept n p flag aggressive s (elementsOf g₁) (variablesOf g₁) i))) (isMass aggressive g p) new
-      (λ i m. ap not (kept-some i m) ∙ twice (isMass aggressive g p i))
-    where
-      twice : (u : Bool) → not (not u) ≡ u
-      twice true = refl
-      twice false = refl
+    pub gone-elements : (i : ℕ) → In i (collected (st .graph) p)
+        → goneE n flag aggressive s (elementsOf (passed (st .graph) p) i) ≡ droppedElements aggressive (passed (st .graph) p) (collected (st .graph) p) i
+    unfolding droppedElements
+    gone-elements i m =
+        keep-same (λ e. goes aggressive flag (rd n W s e)) (λ e. live g₁ e && swallowed aggressive g₁ new e) (elementsOf g₁ i)
+        (λ e me. ap (goes aggressive flag) (b .marks e i m me) ∙ goes-is aggressive (live g₁ e) flag (external g₁ new e) (b .flags))
 
-  pub gone-is : (x : ℕ)
-      → member x (gone n p flag aggressive s (elementsOf (passed (st .graph) p)) (variablesOf (passed (st .graph) p)) (collected (st .graph) p)) ≡ isDropped aggressive (st .graph) p x
-  gone-is x =
-      ap (member x) (flatMap-same (λ i. goneE n flag aggressive s (elementsOf g₁ i)) (droppedElements aggressive g₁ new) new gone-elements)
-      ∙ member-hits x (droppedElements aggressive g₁ new) new
+    -- ---- who keeps nothing, and which elements go
+
+    pub kept-some : (i : ℕ) → In i (collected (st .graph) p)
+        → ltb 0 (kept n p flag aggressive s (elementsOf (passed (st .graph) p)) (variablesOf (passed (st .graph) p)) i) ≡ not (isMass aggressive (st .graph) p i)
+    kept-some i m = rw (kept-elements i m, kept-variables i m) (some-length (keptElements aggressive g₁ new i) (keptVariables g₁ p new i))
+
+    pub mass-is : mass n p flag aggressive s (elementsOf (passed (st .graph) p)) (variablesOf (passed (st .graph) p)) (collected (st .graph) p)
+        ≡ keep (isMass aggressive (st .graph) p) (collected (st .graph) p)
+    mass-is =
+        keep-same (λ i. not (ltb 0 (kept n p flag aggressive s (elementsOf g₁) (variablesOf g₁) i))) (isMass aggressive g p) new
+        (λ i m. ap not (kept-some i m) ∙ twice (isMass aggressive g p i))
+      where
+        twice : (u : Bool) → not (not u) ≡ u
+        twice true = refl
+        twice false = refl
+
+    pub gone-is : (x : ℕ)
+        → member x (gone n p flag aggressive s (elementsOf (passed (st .graph) p)) (variablesOf (passed (st .graph) p)) (collected (st .graph) p)) ≡ isDropped aggressive (st .graph) p x
+    gone-is x =
+        ap (member x) (flatMap-same (λ i. goneE n flag aggressive s (elementsOf g₁ i)) (droppedElements aggressive g₁ new) new gone-elements)
+        ∙ member-hits x (droppedElements aggressive g₁ new) new
+
+    -- of a row of the new element, and of another
+    pub in-mass : (i : ℕ) → In i (collected (st .graph) p)
+        → member i (mass n p flag aggressive s (elementsOf (passed (st .graph) p)) (variablesOf (passed (st .graph) p)) (collected (st .graph) p)) ≡ isMass aggressive (st .graph) p i
+    in-mass i m = ap (member i) mass-is ∙ member-keep i (isMass aggressive g p) new ∙ rw m (last (isMass aggressive g p i))
+      where
+        last : (u : Bool) → u && true ≡ u
+        last true = refl
+        last false = refl
+
+    pub out-mass : (i : ℕ) → member i (collected (st .graph) p) ≡ false
+        → member i (mass n p flag aggressive s (elementsOf (passed (st .graph) p)) (variablesOf (passed (st .graph) p)) (collected (st .graph) p)) ≡ false
+    out-mass i m = ap (member i) mass-is ∙ not-kept i (isMass aggressive g p) new m
+
+    pub some-kept : (i : ℕ) → In i (collected (st .graph) p) → isMass aggressive (st .graph) p i ≡ false
+        → 0 < kept n p flag aggressive s (elementsOf (passed (st .graph) p)) (variablesOf (passed (st .graph) p)) i
+    some-kept i m k = ltb-true 0 (kept n p flag aggressive s (elementsOf g₁) (variablesOf g₁) i) (kept-some i m ∙ ap not k)

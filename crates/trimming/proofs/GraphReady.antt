@@ -27,7 +27,7 @@ use Rattle.trimming.proofs.GraphLists.{entries-once}
 use Rattle.trimming.proofs.GraphMatch.{elements1, kept-elements, kept-variables, kinds1, orphan1, row, variables1, weights1}
 use Rattle.trimming.proofs.Rowwise.{Fine}
 
-module _ {n : ℕ} {st : State} {p : ℕ} {l s : List ℤ} {cnt base lim flag : ℕ} (b : Ready n st p l s cnt base lim flag) (aggressive : Bool) where
+module _ {n : ℕ} {st : State} {p : ℕ} {l s : List ℤ} {cnt base lim flag : ℕ} (b : Ready n st p l s cnt base lim flag) where
   abbrev g : Graph
   g = st .graph
 
@@ -53,24 +53,11 @@ module _ {n : ℕ} {st : State} {p : ℕ} {l s : List ℤ} {cnt base lim flag : 
   pub row-list : (i : ℕ) → In i (collected (st .graph) p) → upd (listOf (passed (st .graph) p)) p (collected (st .graph) p) i ≡ elementsOf (passed (st .graph) p) i ++ variablesOf (passed (st .graph) p) i
   unfolding listOf
   row-list i m =
-      let vi = row b aggressive i m in
+      let vi = row b i m in
       let w : hasWeight g₁ i ≡ true = ap (ltb 0) (weights1 g p i) ∙ var-weighs q i vi in
       upd-other (listOf g₁) p new i (collected-apart g p i m) ∙ rw (and-both (hasWeight g₁ i) (live g₁ i) w (orphan1 q p (b .var) i vi))
 
-  fine-row : (i : ℕ) → In i new → Fine n p flag aggressive X s i (elementsOf g₁ i) (variablesOf g₁ i)
-  fine-row i m =
-      record {
-        inside = var-inside q i (row b aggressive i m);
-        list = row-list i m;
-        elen = b .drawn .elens i (ap isVariable (kinds1 g p i) ∙ row b aggressive i m);
-        own = rw (kept-elements b aggressive i m, kept-variables b aggressive i m, elements1 g p i, variables1 g p i) (own-place aggressive g p q (b .var) i m);
-        light = light b aggressive i m;
-      }
-
-  -- THE hypotheses of the rows
-  pub fine : (i : ℕ) → In i (entries (at l) (rd n PE s p) (rd n LEN s p))
-      → Fine n p flag aggressive (upd (listOf (passed (st .graph) p)) p (collected (st .graph) p)) s i (elementsOf (passed (st .graph) p) i) (variablesOf (passed (st .graph) p) i)
-  fine i m = fine-row i (ap (member i) (sym rows) ∙ m)
+  -- ---- THE hypotheses of the rows
 
   pub once : (t : ℕ) → t < rd n LEN s p → member (at l (rd n PE s p + t)) (entries (at l) (rd n PE s p) t) ≡ false
   once t c = entries-once (at l) (rd n PE s p) (rd n LEN s p) t c (subst⁻¹ Distinct rows (distinct-collected g p))
@@ -80,8 +67,23 @@ module _ {n : ℕ} {st : State} {p : ℕ} {l s : List ℤ} {cnt base lim flag : 
 
   pub far : (i x : ℕ) → In i (entries (at l) (rd n PE s p) (rd n LEN s p)) → (x ≡ p) ⊎ In x (entries (at l) (rd n PE s p) (rd n LEN s p))
       → member x (elementsOf (passed (st .graph) p) i) ≡ false
-  far i x m o = ap (member x) (elements1 g p i) ∙ var-elsewhere q i x (row b aggressive i (ap (member i) (sym rows) ∙ m)) (is-var o)
+  far i x m o = ap (member x) (elements1 g p i) ∙ var-elsewhere q i x (row b i (ap (member i) (sym rows) ∙ m)) (is-var o)
     where
       is-var : (x ≡ p) ⊎ In x (entries (at l) (rd n PE s p) (rd n LEN s p)) → Var g x
       is-var (inl e) = subst⁻¹ (λ (y : ℕ). Var g y) e (b .var)
-      is-var (inr k) = row b aggressive x (ap (member x) (sym rows) ∙ k)
+      is-var (inr k) = row b x (ap (member x) (sym rows) ∙ k)
+
+  module _ (aggressive : Bool) where
+    fine-row : (i : ℕ) → In i new → Fine n p flag aggressive X s i (elementsOf g₁ i) (variablesOf g₁ i)
+    fine-row i m =
+        record {
+          inside = var-inside q i (row b i m);
+          list = row-list i m;
+          elen = b .drawn .elens i (ap isVariable (kinds1 g p i) ∙ row b i m);
+          own = rw (kept-elements b aggressive i m, kept-variables b i m, elements1 g p i, variables1 g p i) (own-place aggressive g p q (b .var) i m);
+          light = light b aggressive i m;
+        }
+
+    pub fine : (i : ℕ) → In i (entries (at l) (rd n PE s p) (rd n LEN s p))
+        → Fine n p flag aggressive (upd (listOf (passed (st .graph) p)) p (collected (st .graph) p)) s i (elementsOf (passed (st .graph) p) i) (variablesOf (passed (st .graph) p) i)
+    fine i m = fine-row i (ap (member i) (sym rows) ∙ m)
