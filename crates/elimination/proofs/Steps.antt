@@ -33,7 +33,7 @@ use Rattle.elimination.specs.declared.Met.{Met}
 use Rattle.elimination.specs.declared.Reduced.{Reduced}
 use Rattle.elimination.specs.declared.Turn.{Turn}
 use Rattle.elimination.specs.declared.Work.{Work}
-use Rattle.elimination.specs.Model.{closed, compared, elementCounted, firstTurn, freeEnd, meeting, met, pivotStep, reduced, placed, placement, nextTurn, reduction, settled, stage, weighedRow, weighedRows}
+use Rattle.elimination.specs.Model.{closed, compared, elementCounted, ended, firstTurn, freeEnd, meeting, met, pivotStep, reduced, placed, placement, nextTurn, reduction, settled, stage, weighedRow, weighedRows}
 use Rattle.elimination.specs.Runs.{Ran, Turned, Whole}
 
 -- ---- the rows' weight
@@ -85,16 +85,20 @@ pub settled-is : (n me d : ℕ) (m : Made) (x : Met) (t : Turn) (gone : ℕ) (l 
 unfolding settled
 settled-is n me d m x t gone l s left l₁ s₁ r free collections y hl hp hf hk hy = rw (← hl, ← hp, ← hf, ← hk, ← hy)
 
-pub pivot-is : (n me d : ℕ) (aggressive : Bool) (t : Turn) (l s l₁ s₁ : List ℤ) (m : Made) (l₂ s₂ : List ℤ) (x : Met) (pivots gone : ℕ) (l₃ s₃ : List ℤ) (r : Turn)
+pub ended-is : (n me d : ℕ) (m : Made) (x : Met) (t : Turn) (l s : List ℤ) (pivots gone : ℕ) (l₁ s₁ : List ℤ) (r : Turn)
+    → pivots ≡ rd n NV s me → gone ≡ plus (t .gone) pivots → stage l₁ s₁ r ≡ settled n me d m x t gone l s → stage l₁ s₁ r ≡ ended n me d m x t l s
+unfolding ended
+ended-is n me d m x t l s pivots gone l₁ s₁ r hp hg hs = rw (← hp, ← hg) hs
+
+pub pivot-is : (n me d : ℕ) (aggressive : Bool) (t : Turn) (l s l₁ s₁ : List ℤ) (m : Made) (l₂ s₂ : List ℤ) (x : Met) (l₃ s₃ : List ℤ) (r : Turn)
     → outside l₁ s₁ m ≡ pivoted n me (t .base) (t .free) (t .made) l s → meeting l₂ s₂ x ≡ met n me (m .start) (m .count) aggressive t l₁ s₁
-    → pivots ≡ rd n NV s₂ me → gone ≡ plus (t .gone) pivots
-    → stage l₃ s₃ r ≡ settled n me d m x t gone l₂ s₂ → stage l₃ s₃ r ≡ pivotStep n me d aggressive t l s
+    → stage l₃ s₃ r ≡ ended n me d m x t l₂ s₂ → stage l₃ s₃ r ≡ pivotStep n me d aggressive t l s
 unfolding pivotStep
-pivot-is n me d aggressive t l s l₁ s₁ m l₂ s₂ x pivots gone l₃ s₃ r ho hx hp hg hs = rw (← ho, ← hx, ← hp, ← hg) hs
+pivot-is n me d aggressive t l s l₁ s₁ m l₂ s₂ x l₃ s₃ r ho hx hs = rw (← ho, ← hx) hs
 
 -- the degree of a pivot that was found
-pub first-small : (n : ℕ) (s : List ℤ) (m i d : ℕ) → First n s m i d → i < n → n < 2 ^ 63 → (i < 2 ^ 63) × (d < 2 ^ 63)
-first-small n s m i d f h k = let a = f .here h .0 in (omega arith, omega arith)
+pub degree-small : (n : ℕ) (s : List ℤ) (m i d : ℕ) → First n s m i d → i < n → n < 2 ^ 63 → d < 2 ^ 63
+degree-small n s m i d f h k = let a = f .here h .0 in omega arith
 
 -- ---- the statistics
 

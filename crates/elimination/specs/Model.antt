@@ -128,13 +128,16 @@ settled n me d m x t gone l s =
     stage (r .lists) (r .mem)
     (nextTurn gone (r .numbers .least) (freeEnd m (t .made) (r .numbers .count)) (plus (t .collections) (m .collected)) m x)
 
+unfoldable pub ended : ℕ → ℕ → ℕ → Made → Met → Turn → List ℤ → List ℤ → Stage
+ended n me d m x t l s = settled n me d m x t (plus (t .gone) (rd n NV s me)) l s
+
 -- ---- one pivot
 
 unfoldable pub pivotStep : ℕ → ℕ → ℕ → Bool → Turn → List ℤ → List ℤ → Stage
 pivotStep n me d aggressive t l s =
     let o = pivoted n me (t .base) (t .free) (t .made) l s in
     let r = met n me (o .made .start) (o .made .count) aggressive t (o .lists) (o .mem) in
-    settled n me d (o .made) (r .numbers) t (plus (t .gone) (rd n NV (r .mem) me)) (r .lists) (r .mem)
+    ended n me d (o .made) (r .numbers) t (r .lists) (r .mem)
 
 unfoldable pub elementCounted : ℕ → ℕ → ℕ → List ℤ → Outcomes.Statistics → Outcomes.Statistics
 elementCounted n me dense s x = addedElement (rd n NV s me) (plus (rd n DEGREE s me) dense) x

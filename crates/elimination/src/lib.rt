@@ -5,7 +5,7 @@ ghost use Prim.Native.Nat.{_+_, _<_, _^_, max};
 ghost use Rattle.cells.specs.View.{Room};
 ghost use Rattle.packed.specs.Gather.{Brief};
 ghost use Rattle.numbers.specs.Meaning.{statisticsMeant};
-ghost use Rattle.elimination.specs.Model.{Small, Few, weighedRow, weighedRows, reduction, reduced, meeting, met, freeEnd, placement, placed, nextTurn, stage, settled, pivotStep, elementCounted, firstTurn, closed};
+ghost use Rattle.elimination.specs.Model.{Small, Few, weighedRow, weighedRows, reduction, reduced, meeting, met, freeEnd, placement, placed, nextTurn, stage, settled, ended, pivotStep, elementCounted, firstTurn, closed};
 ghost use Rattle.elimination.specs.Runs.{Turned, Ran, Whole};
 
 // What a pivot takes over from the one before: how many variables are gone, the least degree, the flag, the largest remaining weight of an element, the merges
@@ -207,6 +207,25 @@ fn settle(
     next_turn(gone, r.least, free, collections, m, x)
 }
 
+// The same, where the pivot has all of its pivots in NV.
+fn end_pivot(
+    lists: &mut [i64],
+    s: &mut [i64],
+    n: usize,
+    me: usize,
+    d: usize,
+    m: packed::Made,
+    x: Met,
+    t: Turn,
+) -> Turn
+    requires { ⌜ Room n (now s) × (n < 2 ^ 63) × (d < 2 ^ 63) × Brief m × Few x × Small t ⌝ }
+    ensures { λ r. ⌜ (stage (now (lists .exit)) (now (s .exit)) r ≡ ended n me d m x t (now (lists .entry)) (now (s .entry))) × Room n (now (s .exit)) × Small r ⌝ }
+{
+    let pivots = cells::tab(s, n, cells::NV, me);
+    let gone = cells::plus(t.gone, pivots);
+    settle(lists, s, n, me, d, m, x, t, gone)
+}
+
 // ---- one pivot
 
 // Steps 2 to 6 for the pivot `me`, found at degree `d`.
@@ -224,9 +243,7 @@ fn eliminate_pivot(
 {
     let m = opening::begin_pivot(lists, s, n, me, t.base, t.free, t.made);
     let x = meet(lists, s, n, me, m.start, m.count, aggressive, t);
-    let pivots = cells::tab(s, n, cells::NV, me);
-    let gone = cells::plus(t.gone, pivots);
-    settle(lists, s, n, me, d, m, x, t, gone)
+    end_pivot(lists, s, n, me, d, m, x, t)
 }
 
 // With what the finished element `me` adds, where `dense` rows are dense.

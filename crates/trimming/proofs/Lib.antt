@@ -15,3 +15,14 @@ pub mod Due
 pub mod Staying
 pub mod Leaving
 pub mod Carried
+pub mod GraphLists
+pub mod GraphMatch
+pub mod GraphBounds
+pub mod GraphReady
+pub mod GraphTrim
+pub mod GraphSpace
+pub mod GraphDrawn
+pub mod GraphBuckets
+pub mod GraphLog
+pub mod GraphFlags
+pub mod GraphStep

@@ -1,4 +1,4 @@
-use Rattle.elimination.proofs.Steps.{first-small, turned-is, turned-none}
+use Rattle.elimination.proofs.Steps.{degree-small, turned-is, turned-none}
 use borrow.Author.Needs.{needs}
 use Rattle.elimination.proofs.take_turn.Statement.{statement}
 use Rattle.elimination.proofs.take_turn.Tie as tie
@@ -14,7 +14,7 @@ find-pivot-requires c κs = search needs
 
 -- src/lib.rt:229:13
 eliminate-pivot-requires : tie.Need-eliminate-pivot-requires
-eliminate-pivot-requires c κs = search (needs, first-small)
+eliminate-pivot-requires c κs = search (needs, degree-small)
 
 -- src/lib.rt:230:13
 count-element-requires : tie.Need-count-element-requires
