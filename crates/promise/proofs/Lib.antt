@@ -1,0 +1,4 @@
+-- What the promise settles. None belongs to a function.
+pub mod Only
+pub mod Left
+pub mod Demand
