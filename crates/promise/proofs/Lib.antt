@@ -2,3 +2,5 @@
 pub mod Only
 pub mod Left
 pub mod Demand
+pub mod Inputs
+pub mod Shams

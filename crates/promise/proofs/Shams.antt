@@ -1,0 +1,107 @@
+-- No sham meets the promise: for each an input at which it leaves something else.
+-- Assumes nothing.
+use Prim.Native.Nat.{ℕ}
+use native.Mathlib.Omega.{arith}
+use mathlib.Core.Path.{_≡_, refl, sym, ap, _∙_}
+use mathlib.Core.Bool.{true, false}
+use mathlib.Core.List.{List, [], _∷_, map}
+use lib.IntN.{ℤ, pos, natAbs}
+use lib.ListN.{getD}
+use Rattle.plain.proofs.Logic.{clash}
+use Rattle.definition.specs.Answers.{accepts, answerOf}
+use Rattle.definition.specs.Pattern.{climbs}
+use Rattle.definition.specs.Promise.{Lent, After, problemOf, after}
+use Rattle.facts.specs.Accepted.{Accepted}
+use Rattle.promise.specs.Demand.{Meets, Alike, size, numbers}
+use Rattle.promise.specs.Shams.{RefusesAll, GivesIdentity, TellsFull, LeavesPermutation, LeavesInverse, OrdersByDegree, CountsNothing, initialDegree}
+use Rattle.promise.specs.Opened.{opened}
+use Rattle.promise.proofs.Inputs.{path, longer, crowded}
+
+-- ---- what is left at the inputs
+
+path-accepted : Accepted (problemOf path)
+unfolding opened
+path-accepted = refl
+
+path-answer : accepts (after path .answer) ≡ true
+unfolding opened
+path-answer = refl
+
+path-permutation : after path .permutation ≡ pos 2 ∷ pos 0 ∷ pos 1 ∷ []
+unfolding opened
+path-permutation = refl
+
+path-inverse : after path .inverse ≡ pos 1 ∷ pos 2 ∷ pos 0 ∷ []
+unfolding opened
+path-inverse = refl
+
+path-lnz : after path .statistics .lnz ≡ 2
+unfolding opened
+path-lnz = refl
+
+longer-accepted : Accepted (problemOf longer)
+unfolding opened
+longer-accepted = refl
+
+-- rows of degree 1, 2, 1, 2
+longer-order : climbs (map (λ v. pos (initialDegree longer v)) (numbers (after longer .permutation))) ≡ false
+unfolding opened
+longer-order = refl
+
+crowded-accepted : Accepted (problemOf (crowded 32))
+unfolding opened
+crowded-accepted = refl
+
+crowded-count : after (crowded 32) .statistics .nCmpA ≡ 1
+unfolding opened
+crowded-count = refl
+
+roomier-accepted : Accepted (problemOf (crowded 33))
+unfolding opened
+roomier-accepted = refl
+
+roomier-count : after (crowded 33) .statistics .nCmpA ≡ 0
+unfolding opened
+roomier-count = refl
+
+-- ---- no function that does what a sham does meets the promise
+
+module _ (f : Lent → After) (meets : Meets f) where
+  pub no-refusing : RefusesAll f → ⊥
+  no-refusing has = clash (accepts (after path .answer)) path-answer (ap (λ (a : After). accepts (a .answer)) (sym (meets path)) ∙ has path path-accepted)
+
+  -- the first of an output
+  abbrev head : List ℤ → ℕ
+  head xs = natAbs (getD xs 0 (pos 0))
+
+  pub no-identity : GivesIdentity f → ⊥
+  unfolding opened
+  no-identity has = absurd (omega (arith, ap head (sym (has path path-accepted) ∙ ap (λ (a : After). a .permutation) (meets path) ∙ path-permutation)))
+
+  pub no-full : TellsFull f → ⊥
+  no-full has = absurd (omega (arith, sym (has path path-accepted) ∙ ap (λ (a : After). a .statistics .lnz) (meets path) ∙ path-lnz))
+
+  pub no-left-permutation : LeavesPermutation f → ⊥
+  no-left-permutation has = absurd (omega (arith, ap head (sym (has path path-accepted) ∙ ap (λ (a : After). a .permutation) (meets path) ∙ path-permutation)))
+
+  -- every number that is lent is 1, and the inverse's second is 2
+  pub no-left-inverse : LeavesInverse f → ⊥
+  no-left-inverse has =
+      absurd (omega (arith, ap (λ (xs : List ℤ). natAbs (getD xs 1 (pos 0))) (sym (has path path-accepted) ∙ ap (λ (a : After). a .inverse) (meets path) ∙ path-inverse)))
+
+  pub no-one-pass : OrdersByDegree f → ⊥
+  no-one-pass has =
+      clash (climbs (map (λ v. pos (initialDegree longer v)) (numbers (after longer .permutation))))
+      (ap (λ (a : After). climbs (map (λ v. pos (initialDegree longer v)) (numbers (a .permutation)))) (sym (meets longer)) ∙ has longer longer-accepted)
+      longer-order
+
+  pub no-uncounted : CountsNothing f → ⊥
+  no-uncounted has = absurd (omega (arith, sym (has (crowded 32) crowded-accepted) ∙ ap (λ (a : After). a .statistics .nCmpA) (meets (crowded 32)) ∙ crowded-count))
+
+-- ---- why the third demand leaves n_cmp_a out: one place more, and there is no collection
+
+pub counts-differ : ((l l′ : Lent) → Alike l l′ → Accepted (problemOf l) → Accepted (problemOf l′) → after l .statistics .nCmpA ≡ after l′ .statistics .nCmpA) → ⊥
+counts-differ same = absurd (omega (arith, sym crowded-count ∙ same (crowded 32) (crowded 33) alike crowded-accepted roomier-accepted ∙ roomier-count))
+  where
+    alike : Alike (crowded 32) (crowded 33)
+    alike = record { n = refl; pointers = refl; rows = refl; multiplier = refl; aggressive = refl }
