@@ -4,3 +4,4 @@ pub mod Left
 pub mod Demand
 pub mod Inputs
 pub mod Shams
+pub mod Caught

@@ -64,13 +64,16 @@ abbrev pub answering : (Lent → Outcome) → Lent → After
 answering o l = cond (accepts (answerOf (problemOf l))) (filled l (o l)) (after l)
 
 -- one sham element of all rows
-unfoldable pub identical : Lent → After
-identical = answering (λ l. record {
+abbrev pub identityOutcome : Lent → Outcome
+identityOutcome l = record {
   answer = answerOf (problemOf l);
   permutation = upTo (size l);
   inverse = upTo (size l);
   statistics = seven (sixOf 0 (record { row = 0; pivots = size l; rest = 0 } ∷ [])) 0;
-})
+}
+
+unfoldable pub identical : Lent → After
+identical l = answering identityOutcome l
 
 -- all else as promised
 unfoldable pub untouching : Lent → After
@@ -88,13 +91,16 @@ unfoldable pub byDegree : Lent → List ℕ
 byDegree l = flatMap (λ d. keep (λ v. eqb (initialDegree l v) d) (upTo (size l))) (upTo (size l))
 
 -- a sham element for each row, with its initial degree
-unfoldable pub onePass : Lent → After
-onePass = answering (λ l. record {
+abbrev pub degreeOutcome : Lent → Outcome
+degreeOutcome l = record {
   answer = answerOf (problemOf l);
   permutation = byDegree l;
   inverse = inverseOf (byDegree l);
   statistics = seven (sixOf 0 (map (λ v. record { row = v; pivots = 1; rest = initialDegree l v }) (byDegree l))) 0;
-})
+}
+
+unfoldable pub onePass : Lent → After
+onePass l = answering degreeOutcome l
 
 -- all else as promised
 unfoldable pub uncounting : Lent → After
