@@ -1,19 +1,18 @@
 -- Each sham's function does what the sham does, so none of the five meets the promise.
 -- Assumes nothing.
-use Prim.Native.Nat.{ℕ, zero, suc, _-_, _*_, _/_, _≤_}
+use Prim.Native.Nat.{ℕ, zero, suc, _-_, _/_, _≤_}
 use native.Mathlib.Nat.{mul-zero, mul-comm}
 use native.Mathlib.Omega.{arith}
-use mathlib.Core.Path.{_≡_, refl, sym, ap, _∙_}
-use mathlib.Core.Bool.{Bool, true, false}
+use mathlib.Core.Path.{_≡_, refl, ap, _∙_}
+use mathlib.Core.Bool.{true}
 use mathlib.Core.List.{List, [], _∷_, _++_, map, flatMap}
-use lib.Dec.{eqb, leb}
+use lib.Dec.{eqb}
 use lib.IntN.{ℤ, pos}
 use lib.Signed.{leZ}
 use borrow.Author.Tests.{eqb-true, le-leb}
 use Rattle.plain.proofs.Logic.{either, and-both, and-right}
 use Rattle.plain.specs.Lists.{upTo, countUp, keep, total}
 use Rattle.definition.specs.Pattern.{climbs, climbsFrom}
-use Rattle.definition.specs.Answers.{accepts, wrongCount, answerOf}
 use Rattle.definition.specs.Statistics.{gainQ, blocksOf, sumOf, sixOf}
 use Rattle.definition.specs.Outcome.{Outcome, refused, seven}
 use Rattle.definition.specs.Promise.{Lent, After, problemOf, filled, untouched}

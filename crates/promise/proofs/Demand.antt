@@ -1,23 +1,21 @@
 -- The third demand, of every two accepted inputs that share pattern and settings.
 -- Assumes nothing.
-use Prim.Native.Nat.{ℕ, suc, _≤_, _<_}
 use mathlib.Core.Path.{_≡_, refl, sym, ap, _∙_, subst}
 use mathlib.Core.Bool.{cond}
-use mathlib.Core.List.{List, map}
+use mathlib.Core.List.{map}
 use lib.IntN.{pos}
-use lib.ListN.{length, getD}
-use Rattle.definition.specs.Answers.{Answer, ordered, orderedJumbled, Problem, answerOf, ruleFor}
+use lib.ListN.{length}
+use Rattle.definition.specs.Answers.{ordered, orderedJumbled, answerOf, ruleFor}
 use Rattle.definition.specs.Pattern.{Pattern, columns, jumbled}
-use Rattle.definition.specs.Statistics.{Six}
-use Rattle.definition.specs.Ordering.{Plain, plain}
-use Rattle.definition.specs.Outcome.{Outcome, seven, withCount, collectionCount}
-use Rattle.definition.specs.Promise.{Lent, After, problemOf, zeroed, filled, after}
+use Rattle.definition.specs.Ordering.{Plain}
+use Rattle.definition.specs.Outcome.{seven, withCount, collectionCount}
+use Rattle.definition.specs.Promise.{Lent, problemOf, zeroed, filled, after}
 use Rattle.facts.specs.Accepted.{Accepted}
 use Rattle.facts.proofs.Accepted.{checked, answer-is, graph-edges}
 use Rattle.facts.proofs.Ordered.{accepted-permutation, accepted-inverse, accepted-inverse-first, accepted-inverse-then}
 use Rattle.fill.proofs.Certain.{lnz-bound, dMax-bound}
 use Rattle.promise.specs.Demand.{Alike, Agreed, Sound, Demand}
-use Rattle.promise.proofs.Left.{orderingOf, left, numbers-pos}
+use Rattle.promise.proofs.Left.{orderingOf, left, count-told, numbers-pos}
 
 -- ---- one input
 
@@ -75,3 +73,11 @@ module _ (l l′ : Lent) (same : Alike l l′) (ok : Accepted (problemOf l)) (ok
 
   pub demand : Demand l l′ (after l) (after l′)
   demand = record { agreed = agreed; sound = sound l ok; sound′ = sound l′ ok′ }
+
+  -- n_cmp_a besides, where both lists slices are of one length; nothing else of a workspace counts
+  collections-same : length (l .lists) ≡ length (l′ .lists) → collectionCount (problemOf l) ≡ collectionCount (problemOf l′)
+  unfolding collectionCount problemOf ruleFor
+  collections-same e = rw (same .n, same .pointers, same .rows, same .multiplier, same .aggressive, e)
+
+  pub count-same : length (l .lists) ≡ length (l′ .lists) → after l .statistics .nCmpA ≡ after l′ .statistics .nCmpA
+  count-same e = count-told l ok ∙ collections-same e ∙ sym (count-told l′ ok′)

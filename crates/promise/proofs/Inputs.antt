@@ -3,14 +3,14 @@
 use Prim.Native.Nat.{ℕ}
 use mathlib.Core.Bool.{Bool, true, false}
 use mathlib.Core.List.{List, [], _∷_, map}
-use lib.IntN.{ℤ, pos}
+use lib.IntN.{pos}
 use lib.ListN.{length, replicate}
-use Rattle.definition.specs.Limits.{listsRoom, scratchRoom}
+use Rattle.definition.specs.Limits.{scratchRoom}
 use Rattle.definition.specs.Promise.{Lent}
 use Rattle.definition.proofs.Problems.{ten}
 
 -- n columns, with pointers and rows, and so many cells of lists; every slice that may be written holds ones
-abbrev pub offered : ℕ → List ℕ → List ℕ → Bool → ℕ → Lent
+abbrev offered : ℕ → List ℕ → List ℕ → Bool → ℕ → Lent
 offered n pointers rows aggressive lists = record {
   n = pos n;
   pointers = map pos pointers;
@@ -31,6 +31,14 @@ path = offered 3 (0 ∷ 0 ∷ 1 ∷ 2 ∷ []) (0 ∷ 1 ∷ []) true 7
 abbrev pub longer : Lent
 longer = offered 4 (0 ∷ 0 ∷ 0 ∷ 1 ∷ 3 ∷ []) (0 ∷ 0 ∷ 1 ∷ []) true 10
 
--- eight rows, aggressive off; 32 cells of lists are the least room, and fill up
-abbrev pub crowded : ℕ → Lent
+-- eight rows, aggressive off, in so many cells of lists
+abbrev crowded : ℕ → Lent
 crowded lists = offered 8 (0 ∷ 0 ∷ 0 ∷ 1 ∷ 3 ∷ 5 ∷ 6 ∷ 9 ∷ 12 ∷ []) (1 ∷ 0 ∷ 2 ∷ 2 ∷ 3 ∷ 0 ∷ 1 ∷ 4 ∷ 5 ∷ 1 ∷ 3 ∷ 5 ∷ []) false lists
+
+-- the least room, which fills up
+abbrev pub tight : Lent
+tight = crowded 32
+
+-- a cell more, and it does not
+abbrev pub roomier : Lent
+roomier = crowded 33

@@ -3,7 +3,7 @@
 use Prim.Native.Nat.{ℕ}
 use native.Mathlib.Omega.{arith}
 use mathlib.Core.Path.{_≡_, refl, sym, ap, _∙_}
-use mathlib.Core.Bool.{true, false}
+use mathlib.Core.Bool.{false}
 use mathlib.Core.List.{List, [], _∷_, map}
 use lib.IntN.{ℤ, pos, natAbs}
 use lib.ListN.{getD}
@@ -12,20 +12,17 @@ use Rattle.definition.specs.Answers.{accepts, answerOf}
 use Rattle.definition.specs.Pattern.{climbs}
 use Rattle.definition.specs.Promise.{Lent, After, problemOf, after}
 use Rattle.facts.specs.Accepted.{Accepted}
-use Rattle.promise.specs.Demand.{Meets, Alike, size, numbers}
+use Rattle.promise.specs.Demand.{Meets, Alike, numbers}
 use Rattle.promise.specs.Shams.{RefusesAll, GivesIdentity, TellsFull, LeavesPermutation, LeavesInverse, OrdersByDegree, CountsNothing, initialDegree}
 use Rattle.promise.specs.Opened.{opened}
-use Rattle.promise.proofs.Inputs.{path, longer, crowded}
+use Rattle.promise.proofs.Left.{answer-told}
+use Rattle.promise.proofs.Inputs.{path, longer, tight, roomier}
 
 -- ---- what is left at the inputs
 
 path-accepted : Accepted (problemOf path)
 unfolding opened
 path-accepted = refl
-
-path-answer : accepts (after path .answer) ≡ true
-unfolding opened
-path-answer = refl
 
 path-permutation : after path .permutation ≡ pos 2 ∷ pos 0 ∷ pos 1 ∷ []
 unfolding opened
@@ -48,27 +45,31 @@ longer-order : climbs (map (λ v. pos (initialDegree longer v)) (numbers (after 
 unfolding opened
 longer-order = refl
 
-crowded-accepted : Accepted (problemOf (crowded 32))
+tight-accepted : Accepted (problemOf tight)
 unfolding opened
-crowded-accepted = refl
+tight-accepted = refl
 
-crowded-count : after (crowded 32) .statistics .nCmpA ≡ 1
+tight-count : after tight .statistics .nCmpA ≡ 1
 unfolding opened
-crowded-count = refl
+tight-count = refl
 
-roomier-accepted : Accepted (problemOf (crowded 33))
+roomier-accepted : Accepted (problemOf roomier)
 unfolding opened
 roomier-accepted = refl
 
-roomier-count : after (crowded 33) .statistics .nCmpA ≡ 0
+roomier-count : after roomier .statistics .nCmpA ≡ 0
 unfolding opened
 roomier-count = refl
 
 -- ---- no function that does what a sham does meets the promise
 
+-- a refusal is wrong at every accepted input
+pub no-refusal : (l : Lent) (a : After) → Accepted (problemOf l) → accepts (a .answer) ≡ false → a ≡ after l → ⊥
+no-refusal l a ok bad e = clash (accepts (answerOf (problemOf l))) ok (sym (ap accepts (ap (λ (x : After). x .answer) e ∙ answer-told l)) ∙ bad)
+
 module _ (f : Lent → After) (meets : Meets f) where
   pub no-refusing : RefusesAll f → ⊥
-  no-refusing has = clash (accepts (after path .answer)) path-answer (ap (λ (a : After). accepts (a .answer)) (sym (meets path)) ∙ has path path-accepted)
+  no-refusing has = no-refusal path (f path) path-accepted (has path path-accepted) (meets path)
 
   -- the first of an output
   abbrev head : List ℤ → ℕ
@@ -96,12 +97,12 @@ module _ (f : Lent → After) (meets : Meets f) where
       longer-order
 
   pub no-uncounted : CountsNothing f → ⊥
-  no-uncounted has = absurd (omega (arith, sym (has (crowded 32) crowded-accepted) ∙ ap (λ (a : After). a .statistics .nCmpA) (meets (crowded 32)) ∙ crowded-count))
+  no-uncounted has = absurd (omega (arith, sym (has tight tight-accepted) ∙ ap (λ (a : After). a .statistics .nCmpA) (meets tight) ∙ tight-count))
 
 -- ---- why the third demand leaves n_cmp_a out: one place more, and there is no collection
 
 pub counts-differ : ((l l′ : Lent) → Alike l l′ → Accepted (problemOf l) → Accepted (problemOf l′) → after l .statistics .nCmpA ≡ after l′ .statistics .nCmpA) → ⊥
-counts-differ same = absurd (omega (arith, sym crowded-count ∙ same (crowded 32) (crowded 33) alike crowded-accepted roomier-accepted ∙ roomier-count))
+counts-differ same = absurd (omega (arith, sym tight-count ∙ same tight roomier alike tight-accepted roomier-accepted ∙ roomier-count))
   where
-    alike : Alike (crowded 32) (crowded 33)
+    alike : Alike tight roomier
     alike = record { n = refl; pointers = refl; rows = refl; multiplier = refl; aggressive = refl }

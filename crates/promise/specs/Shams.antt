@@ -3,18 +3,17 @@
 -- Assumes nothing.
 use Prim.Native.Nat.{ℕ, _-_, _*_, _/_}
 use mathlib.Core.Path.{_≡_}
-use mathlib.Core.Bool.{Bool, true, false, cond}
+use mathlib.Core.Bool.{true, false, cond}
 use mathlib.Core.List.{List, [], _∷_, map, flatMap}
 use lib.Dec.{eqb}
-use lib.IntN.{ℤ, pos}
+use lib.IntN.{pos}
 use lib.ListN.{length, getD}
 use Rattle.plain.specs.Lists.{upTo, keep}
 use Rattle.definition.specs.Pattern.{climbs}
-use Rattle.definition.specs.Answers.{Answer, accepts, wrongCount, answerOf}
-use Rattle.definition.specs.Statistics.{Six, sixOf}
-use Rattle.definition.specs.State.{Front}
+use Rattle.definition.specs.Answers.{accepts, wrongCount, answerOf}
+use Rattle.definition.specs.Statistics.{sixOf}
 use Rattle.definition.specs.Ordering.{graphOf, inverseOf}
-use Rattle.definition.specs.Outcome.{Statistics, Outcome, outcome, refused, seven}
+use Rattle.definition.specs.Outcome.{Outcome, refused, seven}
 use Rattle.definition.specs.Promise.{Lent, After, problemOf, filled, untouched, after}
 use Rattle.promise.specs.Demand.{patternOf, size, numbers}
 
