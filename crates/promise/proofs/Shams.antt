@@ -13,7 +13,7 @@ use Rattle.definition.specs.Pattern.{climbs}
 use Rattle.definition.specs.Promise.{Lent, After, problemOf, after}
 use Rattle.facts.specs.Accepted.{Accepted}
 use Rattle.promise.specs.Demand.{Meets, Alike, numbers}
-use Rattle.promise.specs.Shams.{RefusesAll, GivesIdentity, TellsFull, LeavesPermutation, LeavesInverse, OrdersByDegree, CountsNothing, initialDegree}
+use Rattle.promise.specs.Shams.{RefusesAll, GivesIdentity, TellsFull, LeavesPermutation, LeavesInverse, OrdersByDegree, CountsNothing, KeepsOut, initialDegree}
 use Rattle.promise.specs.Opened.{opened}
 use Rattle.promise.proofs.Left.{answer-told}
 use Rattle.promise.proofs.Inputs.{path, longer, tight, roomier}
@@ -98,6 +98,17 @@ module _ (f : Lent → After) (meets : Meets f) where
 
   pub no-uncounted : CountsNothing f → ⊥
   no-uncounted has = absurd (omega (arith, sym (has tight tight-accepted) ∙ ap (λ (a : After). a .statistics .nCmpA) (meets tight) ∙ tight-count))
+
+  pub none-passes : KeepsOut f
+  none-passes = record {
+    refusing = no-refusing;
+    identity = no-identity;
+    full = no-full;
+    left-permutation = no-left-permutation;
+    left-inverse = no-left-inverse;
+    one-pass = no-one-pass;
+    uncounted = no-uncounted;
+  }
 
 -- ---- why the third demand leaves n_cmp_a out: one place more, and there is no collection
 

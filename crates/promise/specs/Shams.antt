@@ -53,6 +53,16 @@ OrdersByDegree f = Always (λ l. climbs (map (λ v. pos (initialDegree l v)) (nu
 abbrev pub CountsNothing : (Lent → After) → Type 0
 CountsNothing f = Always (λ l. f l .statistics .nCmpA ≡ 0)
 
+-- "None may pass."
+pub record KeepsOut (f : Lent → After) : Type 0 where
+  pub refusing : RefusesAll f → ⊥
+  pub identity : GivesIdentity f → ⊥
+  pub full : TellsFull f → ⊥
+  pub left-permutation : LeavesPermutation f → ⊥
+  pub left-inverse : LeavesInverse f → ⊥
+  pub one-pass : OrdersByDegree f → ⊥
+  pub uncounted : CountsNothing f → ⊥
+
 -- ---- a function for each
 
 unfoldable pub refusing : Lent → After
