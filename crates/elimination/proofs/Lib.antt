@@ -6,3 +6,4 @@ pub mod Trims
 pub mod Merges
 pub mod Places
 pub mod Stands
+pub mod Loop
