@@ -7,3 +7,6 @@ pub mod Merges
 pub mod Places
 pub mod Stands
 pub mod Loop
+pub mod Starts
+pub mod Ends
+pub mod Finished
