@@ -44,6 +44,7 @@ impl Tally {
     pub fn begin(&mut self, name: &str) {
         self.end_line();
         self.began = std::time::Instant::now();
+        eprintln!("{} ..", name);
         self.lines.push(Line { name: name.to_string(), ..Line::default() });
     }
 
