@@ -1,12 +1,11 @@
 -- THE elimination: run in memory, of an accepted problem, it leaves the definition's final graph, its statistics, and its collection count for this room.
 -- Assumes nothing.
-use Prim.Native.Nat.{ℕ, _+_, _*_, _<_, _≤_, _^_}
+use Prim.Native.Nat.{ℕ, _+_, _<_, _≤_, _^_}
 use native.Mathlib.Omega.{arith}
-use mathlib.Core.Bool.{Bool, cond, false}
+use mathlib.Core.Bool.{Bool}
 use mathlib.Core.List.{List}
-use mathlib.Core.Path.{_≡_, _∙_, ap, refl, sym, subst}
+use mathlib.Core.Path.{_≡_, _∙_, ap, sym}
 use borrow.Author.Tests.{ne-eqb}
-use lib.Dec.{eqb}
 use lib.IntN.{ℤ}
 use lib.ListN.{length}
 use Rattle.plain.specs.Lists.{total}
@@ -15,11 +14,11 @@ use Rattle.definition.specs.Elimination.{beside, finalState}
 use Rattle.definition.specs.Limits.{baseLimits}
 use Rattle.definition.specs.Merge.{plainKey}
 use Rattle.definition.specs.Ordering.{finalOf, graphOf, keyFor, limitOf, plain, plainFrom}
-use Rattle.definition.specs.Outcome.{Statistics, collectionCount, seven}
+use Rattle.definition.specs.Outcome.{collectionCount, seven}
 use Rattle.definition.specs.Pattern.{columnCount}
 use Rattle.definition.specs.Room.{collectionsOf, roomStep}
-use Rattle.definition.specs.State.{Graph, State, denseRows, rowCount, started}
-use Rattle.definition.specs.Statistics.{Six, noSix, sixOf}
+use Rattle.definition.specs.State.{State, denseRows, rowCount, started}
+use Rattle.definition.specs.Statistics.{sixOf}
 use Rattle.facts.proofs.Accepted.{few-columns, graph-room, length-graph, neighbourly-graph}
 use Rattle.facts.proofs.Enlisted.{final-gone, inv-start}
 use Rattle.facts.proofs.KindsKept.{dense-final}
@@ -32,7 +31,6 @@ use Rattle.numbers.specs.Meaning.{statisticsMeant}
 use Rattle.cells.specs.View as view
 use Rattle.pattern.specs.Lists.{Packed}
 use Rattle.tree.specs.Final.{Final}
-use Rattle.opening.proofs.Opening.{opened-dense}
 use Rattle.opening.specs.Start.{opened}
 use Rattle.elimination.specs.declared.Eliminated.{Eliminated}
 use Rattle.elimination.specs.Result.{Result}

@@ -5,6 +5,9 @@ pub mod Begun
 pub mod Trims
 pub mod Merges
 pub mod Places
+pub mod After
+pub mod Elements
+pub mod Free
 pub mod Stands
 pub mod Loop
 pub mod Starts

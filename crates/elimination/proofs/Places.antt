@@ -1,12 +1,11 @@
 -- Step 6 of a turn: the code's element has the definition's weight, and the memory after the turn is that of step 6 of the plan.
 -- Assumes nothing.
-use Prim.Native.Nat.{ℕ, _+_, _-_, _<_, _≤_, _^_, max}
+use Prim.Native.Nat.{ℕ, _+_, _-_, _<_, _≤_}
 use native.Mathlib.Omega.{arith}
-use mathlib.Core.Bool.{Bool, cond, false, true}
+use mathlib.Core.Bool.{Bool, cond}
 use mathlib.Core.List.{List, _∷_}
-use mathlib.Core.Path.{_≡_, _∙_, ap, refl, sym, subst}
+use mathlib.Core.Path.{_≡_, _∙_, ap, refl, sym}
 use borrow.Author.Tests.{ltb-false}
-use lib.Dec.{ltb}
 use lib.IntN.{ℤ}
 use Rattle.plain.proofs.Logic.{either}
 use Rattle.plain.proofs.Members.{not-kept}
@@ -20,7 +19,7 @@ use Rattle.definition.specs.Room as room
 use Rattle.definition.specs.State.{Graph, State, degree, hasWeight, weight}
 use Rattle.facts.proofs.Collected.{pivot-outside}
 use Rattle.facts.proofs.Flags.{new-element-most}
-use Rattle.facts.proofs.Step.{degree-p, gone-after, restOf, survivorsOf, weight-t}
+use Rattle.facts.proofs.Step.{degree-p, restOf, survivorsOf}
 use Rattle.facts.proofs.Stepped.{afterMerge, afterTrim, joined2}
 use Rattle.facts.proofs.Theorem.{inv-eliminate}
 use Rattle.facts.proofs.Weights.{conserved3}
@@ -28,13 +27,12 @@ use Rattle.cells.proofs.Slices.{plus-sum}
 use Rattle.cells.specs.Layout.{LEN, NV, PE, WANT}
 use Rattle.cells.specs.View.{plus, rd}
 use Rattle.packed.specs.Gather.{Cut, keptPart}
-use Rattle.placing.proofs.Finish as finish
 use Rattle.placing.specs.Model.{Spot, finished, placedAll, spot}
 use Rattle.elimination.specs.declared.Turn.{Turn}
 use Rattle.elimination.specs.Model.{Stage, compared, ended, freeEnd, met, nextTurn, pivotStep, placed, reduced, settled, stage}
-use Rattle.elimination.proofs.Begun.{Before, begun, chosen, long₁, pivot-low, pivot-var}
-use Rattle.elimination.proofs.Merges.{chained₄, extent₄, left, merged₄, merges, most₄, place₄}
-use Rattle.elimination.proofs.Trims.{taken₃, trimmed₃, trims, weighed₃}
+use Rattle.elimination.proofs.Begun.{Before, begun, chosen, pivot-low, pivot-var}
+use Rattle.elimination.proofs.Merges.{extent₄, left, merged₄, merges, most₄, place₄}
+use Rattle.elimination.proofs.Trims.{taken₃, trims, weighed₃}
 
 heavy-all : (g : Graph) (xs : List ℕ) → total (weight g) (keep (hasWeight g) xs) ≡ total (weight g) xs
 heavy-all g xs =

@@ -1,6 +1,6 @@
 -- The start: the memory that the packed lists of A + A' are opened to stands for the definition's first state.
 -- Assumes nothing.
-use Prim.Native.Nat.{ℕ, _+_, _*_, _<_, _≤_, _^_}
+use Prim.Native.Nat.{ℕ, _<_, _≤_, _^_}
 use native.Mathlib.Omega.{arith}
 use mathlib.Core.Bool.{false≢true, true}
 use mathlib.Core.List.{List, []}
@@ -10,14 +10,14 @@ use lib.ListN.{getD, length}
 use Rattle.plain.specs.Lists.{total}
 use Rattle.plain.specs.Turns.{entries}
 use Rattle.definition.specs.Room.{Room}
-use Rattle.definition.specs.State.{Graph, Kind, variable, merged, element, dense, degree, denseRows, isElement, kind, startWeight, started, weight}
+use Rattle.definition.specs.State.{Graph, Kind, variable, merged, element, dense, degree, denseRows, isElement, kind, startWeight, started}
 use Rattle.definition.specs.Tree.{sizeOf}
 use Rattle.facts.proofs.Enlisted.{inv-start}
 use Rattle.facts.proofs.Start.{Neighbourly, degree-is, element-empty, weight-is}
 use Rattle.numbers.proofs.Growth.{after-none}
-use Rattle.numbers.specs.Gains.{Within, begun}
+use Rattle.numbers.specs.Gains.{begun}
 use Rattle.cells.proofs.Slices.{plus-sum}
-use Rattle.cells.specs.Layout.{LEN, PE}
+use Rattle.cells.specs.Layout.{PE}
 use Rattle.cells.specs.View as view
 use Rattle.cells.specs.View.{at, plus, rd}
 use Rattle.pattern.specs.Lists.{Packed}

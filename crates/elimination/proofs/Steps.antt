@@ -1,15 +1,13 @@
 -- The code's steps are the model's: one law for each way out of a function, its premises in the words of what was called.
 -- Assumes nothing.
-use Prim.Native.Nat.{ℕ, zero, suc, _+_, _-_, _<_, _≤_, _^_, max}
+use Prim.Native.Nat.{ℕ, zero, suc, _-_, _<_, _≤_, _^_, max}
 use native.Mathlib.Omega.{arith}
-use native.Mathlib.Nat.{max-eq-left, max-eq-right}
 use mathlib.Core.Bool.{Bool}
 use mathlib.Core.List.{List}
 use mathlib.Core.Logic.{_≢_, inl, inr}
-use mathlib.Core.Path.{_≡_, _∙_, ap, refl, sym, subst}
+use mathlib.Core.Path.{_≡_, _∙_, ap, refl}
 use borrow.Author.Tests.{le-ltb, lt-ltb}
 use lib.IntN.{ℤ}
-use Rattle.definition.specs.Outcome as Outcomes
 use Rattle.numbers.specs.Gains.{addedElement, begun, counted}
 use Rattle.numbers.specs.Meaning.{statisticsMeant}
 use Rattle.numbers.specs.declared.Statistics.{Statistics}
@@ -28,7 +26,6 @@ use Rattle.placing.specs.declared.Restored.{Restored}
 use Rattle.opening.specs.Begin.{pivoted}
 use Rattle.opening.specs.Start.{opened, setting}
 use Rattle.opening.specs.declared.Aside.{Aside}
-use Rattle.elimination.specs.declared.Eliminated.{Eliminated}
 use Rattle.elimination.specs.declared.Met.{Met}
 use Rattle.elimination.specs.declared.Reduced.{Reduced}
 use Rattle.elimination.specs.declared.Turn.{Turn}
@@ -49,12 +46,6 @@ pub reduced-is : (n me from k : ℕ) (aggressive : Bool) (flag merges : ℕ) (l 
     → reduction l₂ s₂ (record { size = size; merges = t .made }) ≡ reduced n me from k aggressive flag merges l s
 unfolding reduced
 reduced-is n me from k aggressive flag merges l s all s₁ l₂ s₂ t size ha h₁ h₂ hs = rw (hs, ha, ← h₁, ← h₂)
-
-pub larger-first : (a b : ℕ) → b ≤ a → a ≡ max a b
-larger-first a b h = sym (max-eq-left h)
-
-pub larger-second : (a b : ℕ) → a < b → b ≡ max a b
-larger-second a b h = sym (max-eq-right (omega arith))
 
 pub met-is : (n me from k : ℕ) (aggressive : Bool) (t : Turn) (l s l₁ s₁ : List ℤ) (r : Reduced) (most flag : ℕ) (s₂ : List ℤ) (w : Tally)
     → reduction l₁ s₁ r ≡ reduced n me from k aggressive (t .flag) (t .merges) l s → most ≡ max (t .most) (r .size) → flag ≡ plus (t .flag) most

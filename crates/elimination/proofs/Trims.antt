@@ -1,6 +1,6 @@
 -- Step 4 of a turn: the rows of the new element are trimmed, and what is left of its weight.
 -- Assumes nothing.
-use Prim.Native.Nat.{ℕ, _+_, _-_, _<_, _≤_, _^_}
+use Prim.Native.Nat.{ℕ, _+_, _<_, _≤_, _^_}
 use native.Mathlib.Omega.{arith}
 use mathlib.Core.Bool.{Bool, cond, false, true}
 use mathlib.Core.List.{List, _∷_}
@@ -9,7 +9,6 @@ use lib.IntN.{ℤ}
 use lib.ListN.{getD, length}
 use Rattle.plain.proofs.Entries.{upd-same}
 use Rattle.plain.proofs.Members.{member-there, not-in}
-use Rattle.plain.proofs.Logic.{clash}
 use Rattle.plain.proofs.Sums.{total-below}
 use Rattle.plain.specs.Lists.{member, total}
 use Rattle.plain.specs.Members.{In}
@@ -24,7 +23,7 @@ use Rattle.facts.proofs.Invariant.{var-inside}
 use Rattle.facts.proofs.Queues.{delisted-gone, delisted-was}
 use Rattle.facts.proofs.Rows.{same-passed}
 use Rattle.facts.proofs.Stepped.{afterTrim, isMass, weight2}
-use Rattle.cells.specs.Layout.{DEGREE, HEAD, LAST, LEN, NEXT, NV, PE}
+use Rattle.cells.specs.Layout.{HEAD, LAST, LEN, NEXT, PE}
 use Rattle.cells.specs.View.{at, rd}
 use Rattle.chain.proofs.Frame.{chained-frame}
 use Rattle.chain.specs.Chained.{Chained}
@@ -38,7 +37,7 @@ use Rattle.trimming.specs.Model.{Trimming, updatedAll}
 use Rattle.trimming.specs.Step.{Ready, Trimmed}
 use Rattle.elimination.specs.declared.Turn.{Turn}
 use Rattle.elimination.specs.Model.{weighedRows}
-use Rattle.elimination.proofs.Begun.{Before, begun, chained₂, drawn₁, drawn₂, extent₂, heads₂, list₁, logged₂, long₁, outside₂, pivot-low, pivot-var, place₂, sized, small}
+use Rattle.elimination.proofs.Begun.{Before, begun, chained₂, drawn₁, drawn₂, extent₂, heads₂, list₁, logged₂, long₁, outside₂, pivot-var, place₂, sized, small}
 use Rattle.elimination.proofs.Weighing.{weighed-total}
 
 module _ {N n nd size : ℕ} {l s : List ℤ} {t : Turn} {x : Outcomes.Statistics} {st : State} {rm : room.Room} {p d : ℕ} (b : Before N n nd size l s t x st rm p d) (aggressive : Bool) where
