@@ -138,16 +138,21 @@ module _ (n : ℕ) (aggressive : Bool) (dense k : ℕ) (l₀ s₀ : List ℤ) (w
 
 -- ---- the whole
 
-pub whole-is : (n limit free : ℕ) (aggressive : Bool) (l s s₁ : List ℤ) (a : Aside) (gone : ℕ) (t : Turn) (x : Statistics) (l′ s′ : List ℤ) (w : Work) (y : Statistics)
-    → setting s₁ a ≡ opened n limit s → gone ≡ plus (a .roots) (a .dense) → t ≡ firstTurn gone free → statisticsMeant x ≡ begun (a .dense)
+pub first-is : (roots dense free gone : ℕ) → gone ≡ plus roots dense
+    → record { gone = gone; least = 0; flag = 2; most = 0; merges = 0; base = free; free = free; made = 0; collections = 0 } ≡ firstTurn (plus roots dense) free
+unfolding firstTurn
+first-is roots dense free gone h = rw (← h)
+
+pub whole-is : (n limit free : ℕ) (aggressive : Bool) (l s s₁ : List ℤ) (a : Aside) (t : Turn) (x : Statistics) (l′ s′ : List ℤ) (w : Work) (y : Statistics)
+    → setting s₁ a ≡ opened n limit s → t ≡ firstTurn (plus (a .roots) (a .dense)) free → statisticsMeant x ≡ begun (a .dense)
     → Ran n aggressive (a .dense) n l s₁ (record { turn = t; statistics = x }) l′ s′ w
     → statisticsMeant y ≡ closed (a .dense) (w .turn .collections) (statisticsMeant (w .statistics))
     → Whole n limit free aggressive l s l′ s′ (record { statistics = y; merges = w .turn .merges })
-whole-is n limit free aggressive l s s₁ a gone t x l′ s′ w y ho hg ht hx hr hy =
+whole-is n limit free aggressive l s s₁ a t x l′ s′ w y ho ht hx hr hy =
     record {
       first = record { turn = t; statistics = x };
       last = w;
-      begins = rw (← ho) (ht ∙ ap (λ (z : ℕ). firstTurn z free) hg);
+      begins = rw (← ho) ht;
       none = rw (← ho) hx;
       ran = rw (← ho) hr;
       closes = rw (← ho) hy;
