@@ -26,8 +26,8 @@ use Rattle.packed.specs.Places.{sumTo}
 use Rattle.opening.proofs.Opening.{opened-dense, opened-drawn, opened-flags, opened-gone, opened-keys, opened-log, opened-queues, opened-sizes}
 use Rattle.opening.proofs.Turns.{order-start}
 use Rattle.opening.specs.Start.{opened}
 use Rattle.elimination.specs.Model.{firstTurn}
-use Rattle.elimination.specs.Standing.{Standing}
+use Rattle.standing.specs.Standing.{Standing}
 
 element-one : (k : Kind) → isElement k ≡ true → startWeight k ≡ 1
 unfolding startWeight

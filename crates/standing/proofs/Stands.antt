@@ -21,19 +21,19 @@ use Rattle.facts.proofs.Theorem.{inv-eliminate}
 use Rattle.cells.proofs.Slices.{plus-sum}
 use Rattle.cells.specs.Layout.{HHEAD}
 use Rattle.cells.specs.View.{plus}
 use Rattle.elimination.specs.declared.Turn.{Turn}
 use Rattle.numbers.proofs.Rooms.{within-added}
 use Rattle.numbers.proofs.Growth.{after-more}
 use Rattle.numbers.proofs.Totals.{within-gained}
 use Rattle.numbers.specs.Gains.{Within, afterElements, gained}
 use Rattle.elimination.specs.Model.{elementCounted}
-use Rattle.elimination.specs.Standing.{Standing}
-use Rattle.elimination.proofs.Begun.{Before, begun, chosen, pivot-low, pivot-var}
-use Rattle.elimination.proofs.Merges.{merged₄, merges, risen₄, two₄}
-use Rattle.elimination.proofs.Places.{done₅, gone-next, kept₅, left-few, left-is, next, rest-is, turn₅}
-use Rattle.elimination.proofs.After.{chained₅, flagged₅, grows, least₅, logged₅, long₅, now, pivots-are, unwritten₅}
-use Rattle.elimination.proofs.Elements.{sizes₅}
-use Rattle.elimination.proofs.Free.{made₅}
+use Rattle.standing.specs.Standing.{Standing}
+use Rattle.standing.proofs.Begun.{Before, begun, chosen, pivot-low, pivot-var}
+use Rattle.standing.proofs.Merges.{merged₄, merges, risen₄, two₄}
+use Rattle.standing.proofs.Places.{done₅, gone-next, kept₅, left-few, left-is, next, rest-is, turn₅}
+use Rattle.standing.proofs.After.{chained₅, flagged₅, grows, least₅, logged₅, long₅, now, pivots-are, unwritten₅}
+use Rattle.standing.proofs.Elements.{sizes₅}
+use Rattle.standing.proofs.Free.{made₅}
 
 module _ {N n nd size : ℕ} {l s : List ℤ} {t : Turn} {x : Outcomes.Statistics} {st : State} {rm : room.Room} {p d : ℕ} (b : Before N n nd size l s t x st rm p d) (aggressive : Bool) where
   -- ---- the statistics

@@ -26,12 +26,12 @@ use Rattle.drawn.specs.Drawn as drawn
 use Rattle.drawn.specs.Flags.{Flagged}
 use Rattle.drawn.specs.Log.{Logged}
 use Rattle.placing.proofs.Finish.{chained-after, count-after, fields-after, flagged-after, least-after, logged-after, long-after, others-after, rest-after, size-after, trimmed-after}
 use Rattle.elimination.specs.declared.Turn.{Turn}
 use Rattle.numbers.specs.Gains.{Within}
-use Rattle.elimination.proofs.Begun.{Before, begun, chosen, long₁, pivot-var}
-use Rattle.elimination.proofs.Merges.{chained₄, flagged₄, merged₄, merges, two₄}
-use Rattle.elimination.proofs.Places.{done₅, gone-low, gone-next, kept₅, left-few, next, rest-low, spot₅}
-use Rattle.elimination.proofs.Trims.{trimmed₃, trims}
+use Rattle.standing.proofs.Begun.{Before, begun, chosen, long₁, pivot-var}
+use Rattle.standing.proofs.Merges.{chained₄, flagged₄, merged₄, merges, two₄}
+use Rattle.standing.proofs.Places.{done₅, gone-low, gone-next, kept₅, left-few, next, rest-low, spot₅}
+use Rattle.standing.proofs.Trims.{trimmed₃, trims}
 
 module _ {N n nd size : ℕ} {l s : List ℤ} {t : Turn} {x : Outcomes.Statistics} {st : State} {rm : room.Room} {p d : ℕ} (b : Before N n nd size l s t x st rm p d) (aggressive : Bool) where
   abbrev L₄ : List ℤ

@@ -35,8 +35,8 @@ use Rattle.opening.proofs.Pivoting.{begun-count, begun-drawn, begun-fields, beg
 use Rattle.opening.proofs.Gathering.{Last, Same}
 use Rattle.opening.proofs.Turns.{order-fresh, order-room}
 use Rattle.opening.specs.Begin as begin
 use Rattle.elimination.specs.declared.Turn.{Turn}
-use Rattle.elimination.specs.Standing.{Standing}
+use Rattle.standing.specs.Standing.{Standing}
 
 -- the memory stands for the state st, whose pivot is p, of degree d
 pub record Before (N n nd size : ℕ) (l s : List ℤ) (t : Turn) (x : Outcomes.Statistics) (st : State) (rm : room.Room) (p d : ℕ) : Type 0 where

@@ -21,12 +21,12 @@ use Rattle.facts.proofs.Stepped.{After, away, remains}
 use Rattle.cells.proofs.Slices.{same?}
 use Rattle.cells.specs.Layout.{ELEN}
 use Rattle.cells.specs.View.{rd}
 use Rattle.elimination.specs.declared.Turn.{Turn}
-use Rattle.elimination.proofs.Begun.{Before, elens₁, outside₂, pivot-var}
-use Rattle.elimination.proofs.Merges.{fields₄}
-use Rattle.elimination.proofs.Places.{done₅, left-few, next}
-use Rattle.elimination.proofs.Trims.{trimmed₃}
-use Rattle.elimination.proofs.After.{now, others₅, size₅}
+use Rattle.standing.proofs.Begun.{Before, elens₁, outside₂, pivot-var}
+use Rattle.standing.proofs.Merges.{fields₄}
+use Rattle.standing.proofs.Places.{done₅, left-few, next}
+use Rattle.standing.proofs.Trims.{trimmed₃}
+use Rattle.standing.proofs.After.{now, others₅, size₅}
 
 module _ {N n nd size : ℕ} {l s : List ℤ} {t : Turn} {x : Outcomes.Statistics} {st : State} {rm : room.Room} {p d : ℕ} (b : Before N n nd size l s t x st rm p d) (aggressive : Bool) where
   abbrev g : Graph

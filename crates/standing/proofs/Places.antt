@@ -28,11 +28,11 @@ use Rattle.cells.specs.Layout.{LEN, NV, PE, WANT}
 use Rattle.cells.specs.View.{plus, rd}
 use Rattle.packed.specs.Gather.{Cut, keptPart}
 use Rattle.placing.specs.Model.{Spot, finished, placedAll, spot}
 use Rattle.elimination.specs.declared.Turn.{Turn}
 use Rattle.elimination.specs.Model.{Stage, compared, ended, freeEnd, met, nextTurn, pivotStep, placed, reduced, settled, stage}
-use Rattle.elimination.proofs.Begun.{Before, begun, chosen, pivot-low, pivot-var}
-use Rattle.elimination.proofs.Merges.{extent₄, left, merged₄, merges, most₄, place₄}
-use Rattle.elimination.proofs.Trims.{taken₃, trims, weighed₃}
+use Rattle.standing.proofs.Begun.{Before, begun, chosen, pivot-low, pivot-var}
+use Rattle.standing.proofs.Merges.{extent₄, left, merged₄, merges, most₄, place₄}
+use Rattle.standing.proofs.Trims.{taken₃, trims, weighed₃}
 
 heavy-all : (g : Graph) (xs : List ℕ) → total (weight g) (keep (hasWeight g) xs) ≡ total (weight g) xs
 heavy-all g xs =

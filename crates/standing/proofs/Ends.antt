@@ -32,9 +32,9 @@ use Rattle.packed.proofs.Frame.{len-of}
 use Rattle.packed.specs.Places.{places}
 use Rattle.drawn.specs.Drawn.{listOf}
 use Rattle.tree.specs.Final.{Final}
 use Rattle.elimination.specs.declared.Turn.{Turn}
 use Rattle.elimination.specs.Model.{closed}
-use Rattle.elimination.specs.Standing.{Standing}
+use Rattle.standing.specs.Standing.{Standing}
 
 drop-was : (p : ℕ) (xs : List ℕ) (k : ℕ) → In p (drop k xs) → In p xs
 drop-was p xs zero m = m

@@ -30,14 +30,14 @@ use Rattle.drawn.specs.Drawn as drawn
 use Rattle.opening.proofs.Gathering.{Last}
 use Rattle.opening.proofs.Turns.{order-kept, order-next}
 use Rattle.opening.specs.Order.{Ordered}
 use Rattle.elimination.specs.declared.Turn.{Turn}
 use Rattle.elimination.specs.Model.{freeEnd}
-use Rattle.elimination.proofs.Begun.{Before, begun, counted₁, lasts₁, outside₂, pivot-var, sames₁}
-use Rattle.elimination.proofs.Merges.{extent₄, fields₄, merges, place₄}
-use Rattle.elimination.proofs.Places.{done₅, kept₅, left-few, next}
-use Rattle.elimination.proofs.Trims.{trimmed₃}
-use Rattle.elimination.proofs.After.{drawn₄, narrow, now, rest₅, survivors₅, trimmed₅, unwritten₅}
-use Rattle.elimination.proofs.Elements.{element-stays, pivot-now}
+use Rattle.standing.proofs.Begun.{Before, begun, counted₁, lasts₁, outside₂, pivot-var, sames₁}
+use Rattle.standing.proofs.Merges.{extent₄, fields₄, merges, place₄}
+use Rattle.standing.proofs.Places.{done₅, kept₅, left-few, next}
+use Rattle.standing.proofs.Trims.{trimmed₃}
+use Rattle.standing.proofs.After.{drawn₄, narrow, now, rest₅, survivors₅, trimmed₅, unwritten₅}
+use Rattle.standing.proofs.Elements.{element-stays, pivot-now}
 
 module _ {N n nd size : ℕ} {l s : List ℤ} {t : Turn} {x : Outcomes.Statistics} {st : State} {rm : room.Room} {p d : ℕ} (b : Before N n nd size l s t x st rm p d) (aggressive : Bool) where
   abbrev g : Graph

@@ -24,13 +24,13 @@ use Rattle.numbers.specs.Meaning.{statisticsMeant}
 use Rattle.cells.proofs.Slices.{split}
 use Rattle.chain.proofs.Search.{pivot-rep}
 use Rattle.chain.specs.First.{First}
 use Rattle.elimination.specs.declared.Work.{Work}
 use Rattle.elimination.specs.Model.{Stage, elementCounted}
 use Rattle.elimination.specs.Runs.{Ran, Turned}
-use Rattle.elimination.specs.Standing.{Standing}
-use Rattle.elimination.proofs.Begun.{Before}
-use Rattle.elimination.proofs.Places.{stage-next}
-use Rattle.elimination.proofs.Stands.{stands₅}
+use Rattle.standing.specs.Standing.{Standing}
+use Rattle.standing.proofs.Begun.{Before}
+use Rattle.standing.proofs.Places.{stage-next}
+use Rattle.standing.proofs.Stands.{stands₅}
 
 module _ (N n nd size : ℕ) (aggressive : Bool) (many : n ≤ N) (few : N ≤ 100000) (narrow : size < 2 ^ 62) where
   -- of a state that the run reaches, the memory

@@ -32,13 +32,13 @@ use Rattle.cells.specs.View as view
 use Rattle.pattern.specs.Lists.{Packed}
 use Rattle.tree.specs.Final.{Final}
 use Rattle.opening.specs.Start.{opened}
 use Rattle.elimination.specs.declared.Eliminated.{Eliminated}
-use Rattle.elimination.specs.Result.{Result}
+use Rattle.standing.specs.Result.{Result}
 use Rattle.elimination.specs.Runs.{Whole}
-use Rattle.elimination.specs.Standing.{Standing}
-use Rattle.elimination.proofs.Ends.{final, six}
-use Rattle.elimination.proofs.Loop.{ran-stands}
-use Rattle.elimination.proofs.Starts.{dense-is, starts}
+use Rattle.standing.specs.Standing.{Standing}
+use Rattle.standing.proofs.Ends.{final, six}
+use Rattle.standing.proofs.Loop.{ran-stands}
+use Rattle.standing.proofs.Starts.{dense-is, starts}
 
 module _ (limit : ℕ) (nbrs : List (List ℕ)) (nb : Neighbourly nbrs) (few : length nbrs ≤ 100000) (aggressive : Bool) (l s : List ℤ) (free size : ℕ) (room : view.Room (length nbrs) s)
     (packed : Packed (length nbrs) nbrs l s free) (whole : length l ≡ size) (wide : total length nbrs + length nbrs ≤ size) (narrow : size < 2 ^ 62)

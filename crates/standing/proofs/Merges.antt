@@ -29,10 +29,10 @@ use Rattle.merging.proofs.Survivors.{survivor-present, survivors-given}
 use Rattle.merging.proofs.Theorem.{Given, Merged, newest-fewer, step, step-fields, step-flagged, step-pivot}
 use Rattle.merging.specs.declared.Tally.{Tally}
 use Rattle.merging.specs.Model.{Merging, mergedRows, merging}
 use Rattle.elimination.specs.declared.Turn.{Turn}
 use Rattle.elimination.specs.Model.{weighedRows}
-use Rattle.elimination.proofs.Begun.{Before, begun, flag-low, flagged₂, pivot-low, pivot-var, small}
-use Rattle.elimination.proofs.Trims.{chained₃, extent₃, light₃, list₃, place₃, trimmed₃, trims}
+use Rattle.standing.proofs.Begun.{Before, begun, flag-low, flagged₂, pivot-low, pivot-var, small}
+use Rattle.standing.proofs.Trims.{chained₃, extent₃, light₃, list₃, place₃, trimmed₃, trims}
 
 -- a higher flag is above the marks too
 pub flagged-higher : (n : ℕ) (s : List ℤ) (g : Graph) (a b : ℕ) → a ≤ b → Flagged n s g a → Flagged n s g b
