@@ -1,1 +1,3 @@
 -- The modules of `elimination` that belong to no one function.
+pub mod Steps
+pub mod Weighing

@@ -11,11 +11,12 @@ use Rattle.numbers.specs.Gains.{addedElement, counted}
 use Rattle.cells.specs.Layout.{DEGREE, NV, WANT}
 use Rattle.cells.specs.View.{at, plus, rd}
 use Rattle.packed.specs.declared.Made.{Made}
-use Rattle.packed.specs.Gather.{Cut, Outside, keptPart}
+use Rattle.packed.specs.Gather.{keptPart}
 use Rattle.sizing.specs.Model.{sizedAll}
 use Rattle.trimming.specs.Model.{Trimming, updatedAll}
-use Rattle.merging.specs.Model.{Merging, mergedRows, merging}
-use Rattle.placing.specs.Model.{Spot, finished, placedAll, spot}
+use Rattle.merging.specs.Model.{mergedRows, merging}
+use Rattle.placing.specs.declared.Restored.{Restored}
+use Rattle.placing.specs.Model.{finished, placedAll, spot}
 use Rattle.opening.specs.Begin.{pivoted}
 use Rattle.elimination.specs.declared.Met.{Met}
 use Rattle.elimination.specs.declared.Reduced.{Reduced}
@@ -32,10 +33,19 @@ pub record Small (t : Turn) : Type 0 where
   pub made : t .made < 2 ^ 63
   pub collections : t .collections < 2 ^ 63
 
+pub record Few (x : Met) : Type 0 where
+  pub size : x .size < 2 ^ 63
+  pub most : x .most < 2 ^ 63
+  pub flag : x .flag < 2 ^ 63
+  pub merges : x .merges < 2 ^ 63
+
 -- ---- steps 3 to 5
 
+unfoldable pub weighedRow : ℕ → List ℤ → List ℤ → ℕ → ℕ → ℕ
+weighedRow n l s q sum = plus sum (rd n NV s (at l q))
+
 unfoldable pub weighedRows : ℕ → List ℤ → List ℤ → ℕ → ℕ → ℕ
-weighedRows n l s from k = times k (λ t m. plus m (rd n NV s (at l (from + t)))) 0
+weighedRows n l s from k = times k (λ t. weighedRow n l s (from + t)) 0
 
 -- the list space, the scratch, and the numbers beside them
 pub record Reduction : Type 0 where
@@ -85,30 +95,41 @@ stage l s t = record { lists = l; mem = s; turn = t }
 unfoldable pub freeEnd : Made → ℕ → ℕ → ℕ
 freeEnd m made count = cond (ltb made (m .made)) (plus (m .start) count) (m .free)
 
--- the survivors are placed, gone being how many variables are gone then
-abbrev pub restored : ℕ → ℕ → Made → ℕ → ℕ → List ℤ → List ℤ → Spot
-restored n d m size gone l s = placedAll n size (n - gone) l (m .start) (m .count) (spot s d)
+pub record Placement : Type 0 where
+  pub lists : List ℤ
+  pub mem : List ℤ
+  pub numbers : Restored
 
-abbrev pub survived : ℕ → Made → Spot → List ℤ → Cut
-survived n m o l = keptPart n WANT (o .mem) (m .start) (m .count) l
+abbrev pub placement : List ℤ → List ℤ → Restored → Placement
+placement l s r = record { lists = l; mem = s; numbers = r }
 
-unfoldable pub settled : ℕ → ℕ → ℕ → Made → Met → Turn → List ℤ → List ℤ → Stage
-settled n me d m x t l s =
-    let gone = plus (t .gone) (rd n NV s me) in
-    let o = restored n d m (x .size) gone l s in
-    let c = survived n m o l in
-    stage (c .lists) (finished n (o .mem) me (x .size) (c .count))
-    (record {
-      gone = gone;
-      least = o .least;
-      flag = x .flag;
-      most = x .most;
-      merges = x .merges;
-      base = m .base;
-      free = freeEnd m (t .made) (c .count);
-      made = m .made;
-      collections = plus (t .collections) (m .collected);
-    })
+unfoldable pub placed : ℕ → ℕ → ℕ → Made → ℕ → ℕ → List ℤ → List ℤ → Placement
+placed n me d m size left l s =
+    let o = placedAll n size left l (m .start) (m .count) (spot s d) in
+    let c = keptPart n WANT (o .mem) (m .start) (m .count) l in
+    placement (c .lists) (finished n (o .mem) me size (c .count)) (record { count = c .count; least = o .least })
+
+unfoldable pub nextTurn : ℕ → ℕ → ℕ → ℕ → Made → Met → Turn
+nextTurn gone least free collections m x = record {
+  gone = gone;
+  least = least;
+  flag = x .flag;
+  most = x .most;
+  merges = x .merges;
+  base = m .base;
+  free = free;
+  made = m .made;
+  collections = collections;
+}
+
+unfoldable pub settled : ℕ → ℕ → ℕ → Made → Met → Turn → ℕ → List ℤ → List ℤ → Stage
+settled n me d m x t gone l s =
+    let r = placed n me d m (x .size) (n - gone) l s in
+    stage (r .lists) (r .mem)
+    (nextTurn gone (r .numbers .least) (freeEnd m (t .made) (r .numbers .count)) (plus (t .collections) (m .collected)) m x)
+
+unfoldable pub ended : ℕ → ℕ → ℕ → Made → Met → Turn → List ℤ → List ℤ → Stage
+ended n me d m x t l s = settled n me d m x t (plus (t .gone) (rd n NV s me)) l s
 
 -- ---- one pivot
 
@@ -116,7 +137,7 @@ unfoldable pub pivotStep : ℕ → ℕ → ℕ → Bool → Turn → List ℤ �
 pivotStep n me d aggressive t l s =
     let o = pivoted n me (t .base) (t .free) (t .made) l s in
     let r = met n me (o .made .start) (o .made .count) aggressive t (o .lists) (o .mem) in
-    settled n me d (o .made) (r .numbers) t (r .lists) (r .mem)
+    ended n me d (o .made) (r .numbers) t (r .lists) (r .mem)
 
 unfoldable pub elementCounted : ℕ → ℕ → ℕ → List ℤ → Outcomes.Statistics → Outcomes.Statistics
 elementCounted n me dense s x = addedElement (rd n NV s me) (plus (rd n DEGREE s me) dense) x

@@ -5,7 +5,7 @@ ghost use Prim.Native.Nat.{_+_, _<_, _^_, max};
 ghost use Rattle.cells.specs.View.{Room};
 ghost use Rattle.packed.specs.Gather.{Brief};
 ghost use Rattle.numbers.specs.Meaning.{statisticsMeant};
-ghost use Rattle.elimination.specs.Model.{Small, weighedRows, reduction, reduced, meeting, met, freeEnd, stage, settled, pivotStep, elementCounted, firstTurn, closed};
+ghost use Rattle.elimination.specs.Model.{Small, Few, weighedRow, weighedRows, reduction, reduced, meeting, met, freeEnd, placement, placed, nextTurn, stage, settled, ended, pivotStep, elementCounted, firstTurn, closed};
 ghost use Rattle.elimination.specs.Runs.{Turned, Ran, Whole};
 
 // What a pivot takes over from the one before: how many variables are gone, the least degree, the flag, the largest remaining weight of an element, the merges
@@ -24,6 +24,16 @@ pub struct Turn {
 
 // ---- steps 3 to 5
 
+// `sum`, and the weight of the row in cell `q` of the lists.
+fn weigh_row(lists: &[i64], s: &[i64], n: usize, q: usize, sum: usize) -> usize
+    requires { ⌜ Room n (now s) × (sum < 2 ^ 63) ⌝ }
+    ensures { λ r. ⌜ (r ≡ weighedRow n (now (lists .entry)) (now (s .entry)) q sum) × (r < 2 ^ 63) ⌝ }
+{
+    let i = cells::peek(lists, q);
+    let w = cells::tab(s, n, cells::NV, i);
+    cells::plus(sum, w)
+}
+
 // The weight of the rows in the `k` cells of the lists from `from` on.
 fn weigh_rows(lists: &[i64], s: &[i64], n: usize, from: usize, k: usize) -> usize
     requires { ⌜ Room n (now s) × (from < 2 ^ 63) × (k < 2 ^ 63) ⌝ }
@@ -31,9 +41,7 @@ fn weigh_rows(lists: &[i64], s: &[i64], n: usize, from: usize, k: usize) -> usiz
 {
     let mut sum = 0;
     for t in 0..k {
-        let i = cells::peek(lists, from + t);
-        let w = cells::tab(s, n, cells::NV, i);
-        sum = cells::plus(sum, w);
+        sum = weigh_row(lists, s, n, from + t, sum);
     }
     sum
 }
@@ -95,7 +103,7 @@ fn meet(
     t: Turn,
 ) -> Met
     requires { ⌜ Room n (now s) × (me < 2 ^ 63) × (from < 2 ^ 63) × (k < 2 ^ 63) × Small t ⌝ }
-    ensures { λ r. ⌜ (meeting (now (lists .exit)) (now (s .exit)) r ≡ met n me from k aggressive t (now (lists .entry)) (now (s .entry))) × Room n (now (s .exit)) × (r .size < 2 ^ 63) × (r .most < 2 ^ 63) × (r .flag < 2 ^ 63) × (r .merges < 2 ^ 63) ⌝ }
+    ensures { λ r. ⌜ (meeting (now (lists .exit)) (now (s .exit)) r ≡ met n me from k aggressive t (now (lists .entry)) (now (s .entry))) × Room n (now (s .exit)) × Few r ⌝ }
 {
     let r = reduce(lists, s, n, me, from, k, aggressive, t.flag, t.merges);
     let most = larger(t.most, r.size);
@@ -133,7 +141,51 @@ fn free_end(m: packed::Made, made: usize, count: usize) -> usize
     }
 }
 
-// Step 6 for the pivot `me`, found at degree `d`, with its new element `m`.
+// The survivors of the new element `m` are placed, `left` variables being left, and the pivot `me`, found at degree `d`, becomes the element.
+fn place(
+    lists: &mut [i64],
+    s: &mut [i64],
+    n: usize,
+    me: usize,
+    d: usize,
+    m: packed::Made,
+    size: usize,
+    left: usize,
+) -> placing::Restored
+    requires { ⌜ Room n (now s) × (d < 2 ^ 63) × Brief m × (size < 2 ^ 63) × (left < 2 ^ 63) ⌝ }
+    ensures { λ r. ⌜ (placement (now (lists .exit)) (now (s .exit)) r ≡ placed n me d m size left (now (lists .entry)) (now (s .entry))) × Room n (now (s .exit)) × (r .count < 2 ^ 63) × (r .least < 2 ^ 63) ⌝ }
+{
+    let r = placing::restore(lists, s, n, size, left, m.start, m.count, d);
+    placing::finish_element(s, n, me, size, r.count);
+    r
+}
+
+// The numbers of the next turn.
+fn next_turn(
+    gone: usize,
+    least: usize,
+    free: usize,
+    collections: usize,
+    m: packed::Made,
+    x: Met,
+) -> Turn
+    requires { ⌜ (gone < 2 ^ 63) × (least < 2 ^ 63) × (free < 2 ^ 63) × (collections < 2 ^ 63) × Brief m × Few x ⌝ }
+    ensures { λ r. ⌜ (r ≡ nextTurn gone least free collections m x) × Small r ⌝ }
+{
+    Turn {
+        gone: gone,
+        least: least,
+        flag: x.flag,
+        most: x.most,
+        merges: x.merges,
+        base: m.base,
+        free: free,
+        made: m.made,
+        collections: collections,
+    }
+}
+
+// Step 6 for the pivot `me`, found at degree `d`, with its new element `m`; `gone` variables are gone then.
 fn settle(
     lists: &mut [i64],
     s: &mut [i64],
@@ -143,28 +195,35 @@ fn settle(
     m: packed::Made,
     x: Met,
     t: Turn,
+    gone: usize,
 ) -> Turn
-    requires { ⌜ Room n (now s) × (n < 2 ^ 63) × (d < 2 ^ 63) × Brief m × (x .size < 2 ^ 63) × (x .most < 2 ^ 63) × (x .flag < 2 ^ 63) × (x .merges < 2 ^ 63) × Small t ⌝ }
-    ensures { λ r. ⌜ (stage (now (lists .exit)) (now (s .exit)) r ≡ settled n me d m x t (now (lists .entry)) (now (s .entry))) × Room n (now (s .exit)) × Small r ⌝ }
+    requires { ⌜ Room n (now s) × (n < 2 ^ 63) × (d < 2 ^ 63) × Brief m × Few x × Small t × (gone < 2 ^ 63) ⌝ }
+    ensures { λ r. ⌜ (stage (now (lists .exit)) (now (s .exit)) r ≡ settled n me d m x t gone (now (lists .entry)) (now (s .entry))) × Room n (now (s .exit)) × Small r ⌝ }
+{
+    let left = cells::less(n, gone);
+    let r = place(lists, s, n, me, d, m, x.size, left);
+    let free = free_end(m, t.made, r.count);
+    let collections = cells::plus(t.collections, m.collected);
+    next_turn(gone, r.least, free, collections, m, x)
+}
+
+// The same, where the pivot has all of its pivots in NV.
+fn end_pivot(
+    lists: &mut [i64],
+    s: &mut [i64],
+    n: usize,
+    me: usize,
+    d: usize,
+    m: packed::Made,
+    x: Met,
+    t: Turn,
+) -> Turn
+    requires { ⌜ Room n (now s) × (n < 2 ^ 63) × (d < 2 ^ 63) × Brief m × Few x × Small t ⌝ }
+    ensures { λ r. ⌜ (stage (now (lists .exit)) (now (s .exit)) r ≡ ended n me d m x t (now (lists .entry)) (now (s .entry))) × Room n (now (s .exit)) × Small r ⌝ }
 {
     let pivots = cells::tab(s, n, cells::NV, me);
     let gone = cells::plus(t.gone, pivots);
-    let left = cells::less(n, gone);
-    let r = placing::restore(lists, s, n, x.size, left, m.start, m.count, d);
-    placing::finish_element(s, n, me, x.size, r.count);
-    let free = free_end(m, t.made, r.count);
-    let collections = cells::plus(t.collections, m.collected);
-    Turn {
-        gone: gone,
-        least: r.least,
-        flag: x.flag,
-        most: x.most,
-        merges: x.merges,
-        base: m.base,
-        free: free,
-        made: m.made,
-        collections: collections,
-    }
+    settle(lists, s, n, me, d, m, x, t, gone)
 }
 
 // ---- one pivot
@@ -184,7 +243,7 @@ fn eliminate_pivot(
 {
     let m = opening::begin_pivot(lists, s, n, me, t.base, t.free, t.made);
     let x = meet(lists, s, n, me, m.start, m.count, aggressive, t);
-    settle(lists, s, n, me, d, m, x, t)
+    end_pivot(lists, s, n, me, d, m, x, t)
 }
 
 // With what the finished element `me` adds, where `dense` rows are dense.

@@ -82,6 +82,11 @@ module _ (n : ℕ) (s : List ℤ) (i j log : ℕ) (r : Room n s) (hi : i < n) (h
       rd-up-field n MERGES c _ log j v f ∙ rd-hang-field n c _ j (named n i) v e ∙ rd-up-field n LEN c _ j 0 v b ∙ rd-up-field n NV c _ j 0 v a
       ∙ rd-up-field n NV c s i (plus (rd n NV s i) (rd n NV s j)) v a
 
+  -- another row
+  pub join-other : (c v : ℕ) → v ≢ i → v ≢ j → eqb MERGES c ≡ false → rd n c (joined n s i j log) v ≡ rd n c s v
+  unfolding joined left weighed
+  join-other c v e f a = rd-up-field n MERGES c _ log j v a ∙ simp mem
+
   pub join-room : Room n (joined n s i j log)
   unfolding joined left weighed
   join-room = room-up n MERGES _ log j (room-hang n _ j (named n i) (room-up n LEN _ j 0 (room-up n NV _ j 0 (room-up n NV s i _ r))))

@@ -1,7 +1,7 @@
 -- The marks of a comparison: of the rows below n exactly those of the list are marked, if no mark was as high as the flag. And the comparison by marks is the
 -- definition's: two rows whose lists the memory holds are alike where `sameLists` says so.
 -- Assumes nothing.
-use Prim.Native.Nat.{_+_, _-_, _<_, ℕ}
+use Prim.Native.Nat.{_+_, _-_, _<_, _≤_, ℕ}
 use native.Mathlib.Omega.{arith}
 use mathlib.Core.Bool.{Bool, true, false, cond, _&&_}
 use mathlib.Core.List.{List, [], _∷_, _++_, foldl}
@@ -81,6 +81,13 @@ module _ (n flag y : ℕ) (hy : y < n) where
   pub mark-below : (xs : List ℕ) (s : List ℤ) → Room n s → rd n W s y < flag → rd n W (markAll n flag xs s) y < flag + 1
   mark-below xs s r b =
       either (rd n W (markAll n flag xs s) y < flag + 1) (member y xs)
+      (λ m. let z = hit xs s r m in omega arith)
+      (λ m. let z = miss xs s m in omega arith)
+
+  -- nor does one fall
+  pub mark-higher : (xs : List ℕ) (s : List ℤ) → Room n s → rd n W s y < flag → rd n W s y ≤ rd n W (markAll n flag xs s) y
+  mark-higher xs s r b =
+      either (rd n W s y ≤ rd n W (markAll n flag xs s) y) (member y xs)
       (λ m. let z = hit xs s r m in omega arith)
       (λ m. let z = miss xs s m in omega arith)
 

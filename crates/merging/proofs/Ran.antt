@@ -6,7 +6,6 @@ use mathlib.Core.Bool.{Bool, true, false, not}
 use mathlib.Core.List.{List, [], _∷_, foldl}
 use mathlib.Core.Path.{_∙_, _≡_, ap, refl, sym}
 use borrow.Author.Tests.{le-ltb, lt-ltb}
-use lib.Dec.{eqb}
 use lib.IntN.{ℤ}
 use lib.ListN.{length}
 use Rattle.plain.proofs.Logic.{clash, either}
@@ -15,7 +14,7 @@ use Rattle.plain.proofs.Repeats.{distinct-keep, length-keep}
 use Rattle.plain.specs.Lists.{keep, member}
 use Rattle.plain.specs.Members.{Distinct, In}
 use Rattle.cells.proofs.Slices.{plus-sum}
-use Rattle.cells.specs.Layout.{HNEXT, LEN, MERGES, NV, PE, W}
+use Rattle.cells.specs.Layout.{HHEAD, HNEXT, LEN, PE, W}
 use Rattle.cells.specs.View.{plus, rd}
 use Rattle.definition.specs.Merge.{alike, entriesOf, key, mergeAll, mergeOne, sameLists}
 use Rattle.definition.specs.State.{Graph, mergeInto}
@@ -24,7 +23,8 @@ use Rattle.drawn.specs.Buckets.{Chain}
 use Rattle.merging.specs.Rows.{Now, Row}
 use Rattle.merging.specs.Model.{Comparing, Merging, bucketRun, comparing, flagged, followers, markedList, mergedAt, mergedInto, merging, walked}
 use Rattle.merging.specs.declared.Tally.{Tally}
-use Rattle.merging.proofs.Marks.{held-rest, mark-below, markAll, marking-all, marks, marks-field}
+use Rattle.merging.proofs.Kept.{Kept, entries-row, kept-fewer, kept-self, kept-then}
+use Rattle.merging.proofs.Marks.{held-rest, mark-below, mark-higher, markAll, marking-all, marks, marks-field, miss}
 use Rattle.merging.proofs.Rows.{held, marks-now}
 use Rattle.merging.proofs.Walked.{Behind, Walked, chain-same, oneKey, walked as along}
 use Rattle.merging.proofs.Walks.{run-over}
@@ -43,8 +43,8 @@ module _ (n : ℕ) (l : List ℤ) (p : ℕ) (new : List ℕ) (cnt base lim : ℕ
   pub record Left (s : List ℤ) (h : Graph) (vs : List ℕ) (t : Tally) (h′ : Graph) (c : ℕ) (m : Merging) : Type 0 where
     pub now : Now n l p new cnt base lim (m .mem) h′ (m .tally .logged)
     pub next : (v : ℕ) → member v vs ≡ false → rd n HNEXT (m .mem) v ≡ rd n HNEXT s v
-    pub fields : (c v : ℕ) → eqb NV c ≡ false → eqb LEN c ≡ false → eqb PE c ≡ false → eqb MERGES c ≡ false → eqb HNEXT c ≡ false → eqb W c ≡ false
-        → rd n c (m .mem) v ≡ rd n c s v
+    pub heads : (κ : ℕ) → rd n HHEAD (m .mem) κ ≡ rd n HHEAD s κ
+    pub kept : Kept n vs h s (m .mem)
     pub below : (y : ℕ) → y < n → rd n W (m .mem) y < m .tally .flag
     pub flags : m .tally .flag ≤ t .flag + c
     pub rises : t .flag ≤ m .tally .flag
@@ -106,7 +106,13 @@ module _ (n : ℕ) (l : List ℤ) (p : ℕ) (new : List ℕ) (cnt base lim : ℕ
           left = record {
             now = w .now;
             next = λ v e. w .next v (not-here v i js e) (not-there v i js e) ∙ marks-field n (t .flag) HNEXT refl (entriesOf h i) s v;
-            fields = λ c v e1 e2 e3 e4 e5 e6. w .fields c v e1 e2 e3 e4 e5 ∙ marks-field n (t .flag) c e6 (entriesOf h i) s v;
+            heads = λ κ. w .fields HHEAD κ refl refl refl refl refl ∙ marks-field n (t .flag) HHEAD refl (entriesOf h i) s κ;
+            kept = record {
+              fields = λ c v e1 e2 e3 e4 e5 e6 e7. w .fields c v e1 e2 e3 e4 e5 ∙ marks-field n (t .flag) c e6 (entriesOf h i) s v;
+              others = λ c v e e1 e2 e3 e4. w .others c v (not-here v i js e) (not-there v i js e) e1 e2 ∙ marks-field n (t .flag) c e3 (entriesOf h i) s v;
+              higher = λ y b. rw (w .fields W y refl refl refl refl refl) (mark-higher n (t .flag) y b (entriesOf h i) s (r .now .drawn .space .room) (r .below y b));
+              unmarked = λ y b e. w .fields W y refl refl refl refl refl ∙ miss n (t .flag) y b (entriesOf h i) s (e i (member-here i js));
+            };
             below = λ y b. rw (f, w .fields W y refl refl refl refl refl) (mark-below n (t .flag) y b (entriesOf h i) s (r .now .drawn .space .room) (r .below y b));
             flags = omega (arith, f);
             rises = omega (arith, f);
@@ -127,7 +133,8 @@ module _ (n : ℕ) (l : List ℤ) (p : ℕ) (new : List ℕ) (cnt base lim : ℕ
         left = record {
           now = r .now;
           next = λ v e. refl;
-          fields = λ c v e1 e2 e3 e4 e5 e6. refl;
+          heads = λ κ. refl;
+          kept = kept-self n (i ∷ []) h s;
           below = r .below;
           flags = omega arith;
           rises = omega arith;
@@ -183,7 +190,10 @@ module _ (n : ℕ) (l : List ℤ) (p : ℕ) (new : List ℕ) (cnt base lim : ℕ
           record {
             now = w .now;
             next = λ v e. w .next v (out-of-rest v e) ∙ k .left .next v e;
-            fields = λ c v e1 e2 e3 e4 e5 e6. w .fields c v e1 e2 e3 e4 e5 e6 ∙ k .left .fields c v e1 e2 e3 e4 e5 e6;
+            heads = λ κ. w .heads κ ∙ k .left .heads κ;
+            kept = kept-then n (i ∷ js) h s (m .mem) (m₂ .mem) (k .left .kept)
+                (kept-fewer n (i ∷ js) h (keep (λ j. not (sameLists h i j)) js) (foldl (mergeOne oneKey i) h js) (m .mem) (m₂ .mem)
+                (λ v z. member-there v i js (kept-was v (λ j. not (sameLists h i j)) js z)) (λ v. entries-row oneKey v i js h) (w .kept));
             below = w .below;
             flags = omega (arith, w .flags, k .left .flags, rest-fewer);
             rises = omega (arith, w .rises, k .left .rises);
@@ -204,7 +214,8 @@ module _ (n : ℕ) (l : List ℤ) (p : ℕ) (new : List ℕ) (cnt base lim : ℕ
       record {
         now = r .now;
         next = λ v e. refl;
-        fields = λ c v e1 e2 e3 e4 e5 e6. refl;
+        heads = λ κ. refl;
+        kept = kept-self n [] h s;
         below = r .below;
         flags = omega arith;
         rises = omega arith;

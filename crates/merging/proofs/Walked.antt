@@ -23,7 +23,7 @@ use Rattle.definition.specs.State.{Graph, mergeInto, putKind, putParent, putRep
 use Rattle.drawn.specs.Buckets.{Chain}
 use Rattle.merging.specs.Rows.{Now, Row}
 use Rattle.merging.specs.Model.{Comparing, alikeNow, compared, comparing, followers, joined, passedNext, takenNext}
-use Rattle.merging.proofs.Joins.{join-field, join-room}
+use Rattle.merging.proofs.Joins.{join-field, join-other, join-room}
 use Rattle.merging.proofs.Marks.{Marked, alike-same}
 use Rattle.merging.proofs.Rows.{field-now, held, join-now, row-kept}
 use Rattle.merging.proofs.Walks.{at-end}
@@ -46,6 +46,7 @@ module _ (n : ℕ) (l : List ℤ) (p : ℕ) (new : List ℕ) (cnt base lim i fla
     pub next : (v : ℕ) → v ≢ last → member v js ≡ false → rd n HNEXT (m .mem) v ≡ rd n HNEXT s v
     pub keeps : (v : ℕ) → Row n p new h v → (In v js → sameLists h i v ≡ false) → Row n p new (foldl (mergeOne oneKey i) h js) v
     pub fields : (c v : ℕ) → eqb NV c ≡ false → eqb LEN c ≡ false → eqb PE c ≡ false → eqb MERGES c ≡ false → eqb HNEXT c ≡ false → rd n c (m .mem) v ≡ rd n c s v
+    pub others : (c v : ℕ) → v ≢ i → member v js ≡ false → eqb MERGES c ≡ false → eqb HNEXT c ≡ false → rd n c (m .mem) v ≡ rd n c s v
 
   alike-one : (h : Graph) (j : ℕ) → Row n p new h i → Row n p new h j → alike oneKey h i j ≡ sameLists h i j
   unfolding alike key
@@ -83,6 +84,10 @@ module _ (n : ℕ) (l : List ℤ) (p : ℕ) (new : List ℕ) (cnt base lim i fla
     field₁ : (c v : ℕ) → eqb NV c ≡ false → eqb LEN c ≡ false → eqb PE c ≡ false → eqb MERGES c ≡ false → eqb HNEXT c ≡ false → rd n c s₁ v ≡ rd n c s v
     field₁ c v e1 e2 e3 e4 e5 =
         rd-up-field n HNEXT c (joined n s i j log) last (rd n HNEXT s j) v e5 ∙ join-field n s i j log room (b .first .below) (rj .below) ij c v e1 e2 e3 e4
+
+    other₁ : (c v : ℕ) → v ≢ i → v ≢ j → eqb MERGES c ≡ false → eqb HNEXT c ≡ false → rd n c s₁ v ≡ rd n c s v
+    other₁ c v a d e1 e2 =
+        rd-up-field n HNEXT c (joined n s i j log) last (rd n HNEXT s j) v e2 ∙ join-other n s i j log room (b .first .below) (rj .below) ij c v a d e1
 
     next₁ : (v : ℕ) → v ≢ last → rd n HNEXT s₁ v ≡ rd n HNEXT s v
     next₁ v d =
@@ -122,6 +127,7 @@ module _ (n : ℕ) (l : List ℤ) (p : ℕ) (new : List ℕ) (cnt base lim i fla
               (row-kept h (b .now .sized) i j (b .first) ij v (λ q. clash (sameLists h i j) e (ap (sameLists h i) (sym q) ∙ f (rw q (member-here j js)))) r)
               (λ z. f (member-there v j js z)));
           fields = λ c v e1 e2 e3 e4 e5. w .fields c v e1 e2 e3 e4 e5 ∙ field₁ c v e1 e2 e3 e4 e5;
+          others = λ c v a f e1 e2. w .others c v a (not-there v j js f) e1 e2 ∙ other₁ c v a (not-here v j js f) e1 e2;
         }
 
     -- j is passed by
@@ -151,6 +157,7 @@ module _ (n : ℕ) (l : List ℤ) (p : ℕ) (new : List ℕ) (cnt base lim i fla
           next = λ v d f. w .next v (not-here v j js f) (not-there v j js f);
           keeps = λ v r f. rw (alike-one h j (b .first) rj, e) (w .keeps v r (λ z. f (member-there v j js z)));
           fields = w .fields;
+          others = λ c v a f. w .others c v a (not-there v j js f);
         }
 
     -- one turn
@@ -201,6 +208,7 @@ module _ (n : ℕ) (l : List ℤ) (p : ℕ) (new : List ℕ) (cnt base lim i fla
         next = λ v d f. refl;
         keeps = λ v r f. r;
         fields = λ c v e1 e2 e3 e4 e5. refl;
+        others = λ c v a f e1 e2. refl;
       }
 
   walks-more : Distinct new → (j : ℕ) (js : List ℕ) → Walks js → Walks (j ∷ js)

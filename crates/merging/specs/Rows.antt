@@ -2,20 +2,17 @@
 -- Assumes nothing.
 use Prim.Native.Nat.{ℕ, _<_, _^_}
 use mathlib.Core.Bool.{true}
-use mathlib.Core.List.{List, [], _∷_}
+use mathlib.Core.List.{List, _∷_}
 use mathlib.Core.Logic.{_≢_}
 use mathlib.Core.Path.{_≡_}
 use lib.IntN.{ℤ}
 use lib.ListN.{length}
 use Rattle.plain.specs.Lists.{total}
 use Rattle.plain.specs.Members.{Distinct, In}
-use Rattle.cells.specs.Layout.{HHEAD, HKEY, HNEXT}
-use Rattle.cells.specs.View.{rd}
-use Rattle.definition.specs.Merge.{entriesOf, key}
+use Rattle.definition.specs.Merge.{entriesOf}
 use Rattle.definition.specs.State.{Graph, elementsOf, hasWeight, isVariable, kind, live, weight}
 use Rattle.drawn.specs.Drawn.{Within}
 use Rattle.drawn.specs.Log.{Logged}
-use Rattle.facts.specs.Classes.{bucketOf, newestFirst}
 use Rattle.facts.specs.Invariant.{Sized}
 
 -- a row that step 5 compares: a variable of the new element, whose list begins with it

@@ -10,7 +10,7 @@ use Rattle.definition.specs.Statistics.{gainQ, gainS, gainLdl}
 use Rattle.definition.specs.Outcome as Outcomes
 use Rattle.numbers.specs.declared.Statistics.{Statistics}
 use Rattle.numbers.specs.Meaning.{statisticsMeant}
-use Rattle.numbers.specs.Gains.{begun, gained, Small}
+use Rattle.numbers.specs.Gains.{begun, gained, Small, Within}
 
 -- ---- what one element adds
 
@@ -42,12 +42,6 @@ module _ (N f r : ℕ) (h : f + r ≤ N) where
   gain-ldl = omega (arith, gain-lu, gain-lnz)
 
 -- ---- what all add
-
-pub record Within (N g : ℕ) (x : Outcomes.Statistics) : Type 0 where
-  pub below-lnz : x .lnz ≤ g * (N * N)
-  pub below-div : x .nDiv ≤ g * (N * N)
-  pub below-ldl : x .nMultSubsLdl ≤ g * (N * N)
-  pub below-lu : x .nMultSubsLu ≤ g * (N * N)
 
 pub within-begun : (N nd : ℕ) → Within N 0 (begun nd)
 unfolding begun

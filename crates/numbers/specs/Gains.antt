@@ -1,6 +1,6 @@
 -- The statistics as they grow, element by element; proofs/Growth shows that they end as the definition's.
 -- Assumes nothing.
-use Prim.Native.Nat.{ℕ, _+_, _≤_, _^_, max}
+use Prim.Native.Nat.{ℕ, _+_, _*_, _≤_, _^_, max}
 use mathlib.Core.Bool.{Bool, cond, _&&_}
 use mathlib.Core.List.{List, foldl}
 use lib.Dec.{leb}
@@ -56,3 +56,10 @@ pub record Small (s : Statistics) : Type 0 where
   pub small-div : s .«n_div» ≤ 2 ^ 62
   pub small-ldl : s .«n_mult_subs_ldl» ≤ 2 ^ 62
   pub small-lu : s .«n_mult_subs_lu» ≤ 2 ^ 62
+
+-- the totals while g variables are gone, where no element has more than N rows
+pub record Within (N g : ℕ) (x : Outcomes.Statistics) : Type 0 where
+  pub below-lnz : x .lnz ≤ g * (N * N)
+  pub below-div : x .nDiv ≤ g * (N * N)
+  pub below-ldl : x .nMultSubsLdl ≤ g * (N * N)
+  pub below-lu : x .nMultSubsLu ≤ g * (N * N)

@@ -271,7 +271,23 @@ module _ (n : ℕ) (l s : List ℤ) (t : State) (inv : Inv n t) (wd : Weighed t)
   unfolding begin.pivoted
   begun-keys v = same₅ HHEAD v refl refl refl refl refl refl refl refl refl refl
 
+  -- every field that neither a list nor a gather changes
+  pub begun-fields : (f i : ℕ) → eqb HEAD f ≡ false → eqb NEXT f ≡ false → eqb LAST f ≡ false → eqb WANT f ≡ false → eqb PE f ≡ false → eqb LEN f ≡ false → eqb TMP f ≡ false
+      → eqb ORD f ≡ false → eqb W f ≡ false → eqb HNEXT f ≡ false → rd n f (begin.pivoted n p base lim made l s .mem) i ≡ rd n f s i
+  unfolding begin.pivoted
+  begun-fields = same₅
+
   -- the new element's cells
+  pub begun-place : rd n PE (begin.pivoted n p base lim made l s .mem) p ≡ begin.pivoted n p base lim made l s .made .start
+  unfolding begin.pivoted
+  begun-place = after PE p refl refl refl ∙ c .place
+
+  pub begun-count : rd n LEN (begin.pivoted n p base lim made l s .mem) p ≡ begin.pivoted n p base lim made l s .made .count
+  unfolding begin.pivoted
+  begun-count =
+      after LEN p refl refl refl ∙ len-of (x .lists) (places n (x .mem)) (x .made .free) (upd (listOf (passed g p)) p new) (c .space .lists) p
+      ∙ ap length (upd-same (listOf (passed g p)) p new) ∙ sym (c .count)
+
   pub begun-list : entries (at (begin.pivoted n p base lim made l s .lists)) (begin.pivoted n p base lim made l s .made .start) (begin.pivoted n p base lim made l s .made .count)
       ≡ collected (t .graph) p
   unfolding begin.pivoted

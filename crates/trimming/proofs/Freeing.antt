@@ -64,7 +64,7 @@ module _ (n : ℕ) (X : ℕ → List ℕ) (l s : List ℤ) (cnt base lim : ℕ) 
 
 -- ---- one more in a list
 
-snoc-out : (x e : ℕ) (xs : List ℕ) → member x (xs ++ (e ∷ [])) ≡ false → (member x xs ≡ false) × (e ≢ x)
+pub snoc-out : (x e : ℕ) (xs : List ℕ) → member x (xs ++ (e ∷ [])) ≡ false → (member x xs ≡ false) × (e ≢ x)
 snoc-out x e xs h = (
   not-in x xs (λ a. clash (member x (xs ++ (e ∷ []))) (member-left x xs (e ∷ []) a) h),
   λ a. clash (member x (xs ++ (e ∷ []))) (member-right x xs (e ∷ []) (member-first x e [] (sym a))) h,

@@ -37,6 +37,7 @@ pub record Massed (n me i made : ℕ) (s : List ℤ) (gone : List ℕ) (s′ : L
   pub weights : (x : ℕ) → me ≢ x → i ≢ x → rd n NV s′ x ≡ rd n NV s x
   pub others : (f x : ℕ) → eqb 13 f ≡ false → eqb 14 f ≡ false → i ≢ x → member x gone ≡ false → rd n f s′ x ≡ rd n f s x
   pub fields : (f x : ℕ) → eqb 0 f ≡ false → eqb 1 f ≡ false → eqb 5 f ≡ false → eqb 13 f ≡ false → eqb 14 f ≡ false → rd n f s′ x ≡ rd n f s x
+  pub marks : (x : ℕ) → member x gone ≡ false → rd n W s′ x ≡ rd n W s x
   pub kin : (x : ℕ) → i ≢ x → member x gone ≡ false → parent n s′ x ≡ parent n s x
   -- the elements that were taken up
   pub taken : (x : ℕ) → member x gone ≡ true → (rd n W s′ x ≡ 0) × (rd n LEN s′ x ≡ 0) × (parent n s′ x ≡ named n me)
@@ -152,6 +153,7 @@ module _ (n me flag : ℕ) (X : ℕ → List ℕ) (l s : List ℤ) (cnt base lim
         fields = λ f x t0 t1 t5 t13 t14.
             rd-up-field n MERGES f d made i x t13 ∙ rd-hang-field n f c i (named n me) x t0 ∙ rd-up-field n LEN f b i 0 x t1 ∙ rd-up-field n NV f a i 0 x t14
             ∙ rd-up-field n NV f s₁ me w x t14 ∙ h .freed .fields f x t0 t1 t5;
+        marks = λ x w. mark-up x ∙ h .freed .others W x w;
         kin = λ x z y.
             parent-up-field n MERGES d made i x refl ∙ parent-hang-cell n c i (named n me) x z ∙ parent-up-field n LEN b i 0 x refl ∙ parent-up-field n NV a i 0 x refl
             ∙ parent-up-field n NV s₁ me w x refl ∙ h .freed .kin x y;

@@ -70,6 +70,9 @@ pub record Stayed (n me flag i k : ℕ) (s : List ℤ) (gone es vs : List ℕ) (
   pub others : (f x : ℕ) → eqb 9 f ≡ false → i ≢ x → member x gone ≡ false → rd n f s′ x ≡ rd n f s x
   pub fields : (f x : ℕ) → eqb 0 f ≡ false → eqb 1 f ≡ false → eqb 5 f ≡ false → eqb 3 f ≡ false → eqb 4 f ≡ false → eqb 9 f ≡ false → eqb 10 f ≡ false → eqb 11 f ≡ false
       → rd n f s′ x ≡ rd n f s x
+  -- fields that are written of row i alone: the same of an element that is taken up
+  pub apart : (f x : ℕ) → eqb 0 f ≡ false → eqb 1 f ≡ false → eqb 5 f ≡ false → eqb 9 f ≡ false → i ≢ x → rd n f s′ x ≡ rd n f s x
+  pub marks : (x : ℕ) → member x gone ≡ false → rd n W s′ x ≡ rd n W s x
   pub kin : (x : ℕ) → member x gone ≡ false → parent n s′ x ≡ parent n s x
   -- the elements that were taken up
   pub taken : (x : ℕ) → member x gone ≡ true → (rd n W s′ x ≡ 0) × (rd n LEN s′ x ≡ 0) × (parent n s′ x ≡ named n me)
@@ -225,6 +228,10 @@ module _ (n me flag : ℕ) (X : ℕ → List ℕ) (l s : List ℤ) (cnt base lim
         fields = λ f x t0 t1 t5 t3 t4 t9 t10 t11.
             rd-up-field n HKEY f e₂ i k x t11 ∙ rd-up-field n HHEAD f e₁ k i x t9 ∙ rd-up-field n HNEXT f d i (rd n HHEAD d k) x t10 ∙ lowered-field n i (m .kept .deg) b f x t4
             ∙ rd-up-field n LEN f a i (plus (m .kept .cnt) 1) x t1 ∙ rd-up-field n ELEN f s₁ i (plus (m .kept .elements) 1) x t3 ∙ h .freed .fields f x t0 t1 t5;
+        apart = λ f x t0 t1 t5 t9 z.
+            rd-up-cell n HKEY f e₂ i k x z ∙ rd-up-field n HHEAD f e₁ k i x t9 ∙ rd-up-cell n HNEXT f d i (rd n HHEAD d k) x z ∙ lowered-cell n i (m .kept .deg) b f x z
+            ∙ rd-up-cell n LEN f a i (plus (m .kept .cnt) 1) x z ∙ rd-up-cell n ELEN f s₁ i (plus (m .kept .elements) 1) x z ∙ h .freed .fields f x t0 t1 t5;
+        marks = λ x w. mark-up x ∙ h .freed .others W x w;
         kin = λ x w.
             parent-up-field n HKEY e₂ i k x refl ∙ parent-up-field n HHEAD e₁ k i x refl ∙ parent-up-field n HNEXT d i (rd n HHEAD d k) x refl ∙ lowered-kin n i (m .kept .deg) b x
             ∙ parent-up-field n LEN a i (plus (m .kept .cnt) 1) x refl ∙ parent-up-field n ELEN s₁ i (plus (m .kept .elements) 1) x refl ∙ h .freed .kin x w;

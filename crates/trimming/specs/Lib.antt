@@ -1,2 +1,3 @@
 -- The definitions that the contracts of `trimming` cite.
 pub mod Model
+pub mod Step

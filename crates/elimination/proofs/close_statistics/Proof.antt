@@ -1,3 +1,4 @@
+use Rattle.elimination.proofs.Steps.{closed-is}
 use borrow.Author.Needs.{needs}
 use Rattle.elimination.proofs.close_statistics.Statement.{statement}
 use Rattle.elimination.proofs.close_statistics.Tie as tie
@@ -16,7 +17,7 @@ with-collections-requires c κs = search needs
 
 -- src/lib.rt:291:1
 returns : tie.Need-returns
-returns c = ?
+returns c = search (needs, closed-is)
 
 pub close-statistics-spec : {M : Type 1} → statement M
 close-statistics-spec = tie.close (tie.spec add-element-requires with-collections-requires returns)

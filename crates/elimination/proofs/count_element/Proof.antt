@@ -1,3 +1,4 @@
+use Rattle.elimination.proofs.Steps.{counted-is}
 use borrow.Author.Needs.{needs}
 use Rattle.elimination.proofs.count_element.Statement.{statement}
 use Rattle.elimination.proofs.count_element.Tie as tie
@@ -26,7 +27,7 @@ add-element-requires c κs = search needs
 
 -- src/lib.rt:191:1
 returns : tie.Need-returns
-returns c = ?
+returns c = search (needs, counted-is)
 
 pub count-element-spec : {M : Type 1} → statement M
 count-element-spec =

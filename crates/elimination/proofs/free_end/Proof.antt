@@ -1,3 +1,4 @@
+use Rattle.elimination.proofs.Steps.{free-behind, free-same}
 use borrow.Author.Needs.{needs}
 use Rattle.elimination.proofs.free_end.Statement.{statement}
 use Rattle.elimination.proofs.free_end.Tie as tie
@@ -11,11 +12,11 @@ plus-requires c κs = search needs
 
 -- src/lib.rt:125:1
 returns : tie.Need-returns
-returns c = ?
+returns c = search (needs, free-behind)
 
 -- src/lib.rt:125:1
 returns-2 : tie.Need-returns-2
-returns-2 c = ?
+returns-2 c = search (needs, free-same)
 
 pub free-end-spec : {M : Type 1} → statement M
 free-end-spec = tie.close (tie.spec plus-requires returns returns-2)
