@@ -4,12 +4,11 @@ use Prim.Native.Nat.{ℕ, _+_, _*_, _≤_, _^_, min}
 use native.Mathlib.Nat.{mul-le-mul}
 use native.Mathlib.Omega.{arith}
 use mathlib.Core.Path.{_≡_, sym, ap, _∙_}
-use mathlib.Core.Bool.{false, _||_}
+use mathlib.Core.Bool.{_||_}
 use lib.Dec.{ltb}
 use lib.ListN.{length}
 use borrow.Author.Tests.{ltb-true, ltb-false, le-ltb}
 use Rattle.plain.proofs.Logic.{either, or-false-right}
-use Rattle.plain.specs.Lists.{total}
 use Rattle.definition.specs.Answers.{Problem, badMultiplier, badOutputs, badRoom, ruleFor}
 use Rattle.definition.specs.Limits.{baseLimits, listsRoom, scratchRoom}
 use Rattle.definition.specs.Ordering.{graphOf, limitOf, keyFor}

@@ -1,56 +1,26 @@
 -- What a call leaves, as the definition says it: of a problem that is refused, and of one that is accepted.
 -- Assumes nothing.
-use Prim.Native.Nat.{ℕ, min, _^_}
 use mathlib.Core.Path.{_≡_, refl, sym, ap, _∙_}
 use mathlib.Core.Bool.{Bool, true, false, cond}
 use mathlib.Core.List.{List, [], map}
 use lib.Dec.{eqb}
 use lib.IntN.{ℤ, pos}
 use lib.ListN.{length, replicate}
-use Rattle.definition.specs.Answers.{Problem, accepts, answerOf, numberOf, ordered, orderedJumbled, ruleFor}
+use Rattle.definition.specs.Answers.{accepts, answerOf, numberOf, ordered, orderedJumbled, ruleFor}
 use Rattle.definition.specs.Answers as Answers
 use Rattle.definition.specs.Ordering.{plain}
-use Rattle.definition.specs.Outcome.{seven, collectionCount, withCount, refused, outcome}
+use Rattle.definition.specs.Outcome.{seven, collectionCount, withCount, refused}
 use Rattle.definition.specs.Outcome as Outcomes
 use Rattle.definition.specs.Pattern.{columns, jumbled}
-use Rattle.definition.specs.Promise.{Lent, After, problemOf, zeroed, filled, untouched, after}
+use Rattle.definition.specs.Promise.{Lent, problemOf, zeroed, filled, untouched, after}
 use Rattle.facts.proofs.Accepted.{checked, answer-is}
 use Rattle.facts.specs.Accepted.{Accepted}
 use Rattle.numbers.specs.Meaning.{answerMeant, statisticsMeant, outcomeMeant}
 use Rattle.numbers.specs.declared.Answer.{Answer}
 use Rattle.numbers.specs.declared.Outcome.{Outcome}
 use Rattle.numbers.specs.declared.Statistics.{Statistics}
+use Rattle.promise.proofs.Left as Promised
 use Rattle.ordering.specs.Left.{left}
-
--- ---- what the definition says
-
-module _ (z : Lent) where
-  abbrev problem : Problem
-  problem = problemOf z
-
-  abbrev whole : Outcomes.Outcome
-  whole = withCount (answerOf problem) (plain (problem .pattern) (ruleFor problem) (problem .aggressive)) (collectionCount problem)
-
-  abbrev nothing : Outcomes.Outcome
-  nothing = refused (answerOf problem)
-
-  outcome-by : (b : Bool) → accepts (answerOf problem) ≡ b → outcome problem ≡ cond b whole nothing
-  unfolding outcome
-  outcome-by b e = ap (λ (t : Bool). elim t [ true ↦ whole | false ↦ nothing ]) e ∙ go b
-    where
-      go : (t : Bool) → elim t [ true ↦ whole | false ↦ nothing ] ≡ cond t whole nothing
-      go true = refl
-      go false = refl
-
-  after-refused : accepts (answerOf problem) ≡ false → after z ≡ untouched z nothing
-  unfolding after
-  after-refused e = ap (λ (t : Bool). elim t [ true ↦ filled z (outcome problem) | false ↦ untouched z (outcome problem) ]) e ∙ ap (untouched z) (outcome-by false e)
-
-  after-accepted : accepts (answerOf problem) ≡ true → after z ≡ filled z whole
-  unfolding after
-  after-accepted e = ap (λ (t : Bool). elim t [ true ↦ filled z (outcome problem) | false ↦ untouched z (outcome problem) ]) e ∙ ap (filled z) (outcome-by true e)
-
--- ---- what is left is that
 
 pub refused-left : (z : Lent) (a : Answer) (r : Outcome) → outcomeMeant r [] [] ≡ refused (answerMeant a) → accepts (answerMeant a) ≡ false → answerMeant a ≡ answerOf (problemOf z)
     → left r (z .permutation) (z .inverse) (z .lists) (z .scratch) ≡ after z
@@ -58,7 +28,7 @@ unfolding untouched refused outcomeMeant
 refused-left z a r h denied is =
     let answer : answerMeant (r .answer) ≡ answerOf (problemOf z) = ap (λ (o : Outcomes.Outcome). o .answer) h ∙ is in
     let statistics = ap (λ (o : Outcomes.Outcome). o .statistics) h in
-    rw (answer, statistics) (sym (after-refused z (ap accepts (sym is) ∙ denied)))
+    rw (answer, statistics) (sym (Promised.left-refused z (ap accepts (sym is) ∙ denied)))
 
 pub accepted-left : (z : Lent) (a : Answer) (x : Statistics) (p i : List ℤ) → Accepted (problemOf z) → answerMeant a ≡ answerOf (problemOf z)
     → statisticsMeant x ≡ seven (plain (problemOf z .pattern) (ruleFor (problemOf z)) (problemOf z .aggressive) .six) (collectionCount (problemOf z))
@@ -66,7 +36,7 @@ pub accepted-left : (z : Lent) (a : Answer) (x : Statistics) (p i : List ℤ) �
     → i ≡ map pos (plain (problemOf z .pattern) (ruleFor (problemOf z)) (problemOf z .aggressive) .inverse)
     → left (record { answer = a; statistics = x }) p i (replicate (length (z .lists)) (pos 0)) (replicate (length (z .scratch)) (pos 0)) ≡ after z
 unfolding filled withCount zeroed
-accepted-left z a x p i ok is counts perm inverse = rw (is, counts, perm, inverse) (sym (after-accepted z ok))
+accepted-left z a x p i ok is counts perm inverse = rw (is, counts, perm, inverse) (sym (Promised.left z ok))
 
 -- ---- jumbled or not, by the answer's number
 

@@ -10,7 +10,7 @@ use lib.ListN.{length}
 use Rattle.plain.proofs.Logic.{either}
 use Rattle.plain.specs.Lists.{total, isEmpty}
 use Rattle.definition.specs.Elimination.{eliminate}
-use Rattle.definition.specs.Pivot.{found, collected}
+use Rattle.definition.specs.Pivot.{found}
 use Rattle.definition.specs.Room.{Room, roomStep, collectionsOf}
 use Rattle.definition.specs.State.{State, elementsOf, started}
 use Rattle.facts.proofs.Collections.{short-collected, few-survivors, room-same, room-none}

@@ -3,14 +3,14 @@
 use Prim.Native.Nat.{ℕ, _+_, _*_, _≤_, _<_, _^_, min}
 use native.Mathlib.Omega.{arith}
 use mathlib.Core.Path.{_≡_, sym, ap, _∙_}
-use mathlib.Core.Bool.{Bool, true, false, cond}
+use mathlib.Core.Bool.{Bool, cond}
 use mathlib.Core.List.{List, map}
 use lib.Dec.{eqb}
 use lib.IntN.{ℤ, pos}
-use lib.ListN.{length, replicate}
+use lib.ListN.{length}
 use borrow.Author.Tests.{eqb-true, eqb-false}
 use Rattle.plain.proofs.Logic.{either}
-use Rattle.definition.specs.Answers.{Problem, answerOf, ruleFor, orFullRows}
+use Rattle.definition.specs.Answers.{Problem, ruleFor}
 use Rattle.definition.specs.Ordering.{graphOf, limitOf, keyFor, finalOf, plain, plainFrom}
 use Rattle.definition.specs.Outcome.{collectionCount, seven}
 use Rattle.definition.specs.Pattern as Patterns

@@ -1,8 +1,6 @@
 -- What a call is lent and what it leaves behind, in the definition's records.
 -- Assumes nothing.
-use mathlib.Core.Bool.{Bool}
 use mathlib.Core.List.{List}
-use lib.Ieee.{Float}
 use lib.IntN.{ℤ}
 use Rattle.definition.specs.Promise.{Lent, After}
 use Rattle.numbers.specs.Meaning.{answerMeant, statisticsMeant}
