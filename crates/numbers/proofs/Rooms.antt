@@ -1,13 +1,16 @@
 -- The test that the totals have room for one more element.
 -- Assumes nothing.
-use Prim.Native.Nat.{_+_, _<_, _≤_, _^_, ℕ}
+use Prim.Native.Nat.{_+_, _*_, _<_, _≤_, _^_, ℕ}
+use native.Mathlib.Nat.{mul-le-mul-right}
+use native.Mathlib.Omega.{arith}
 use mathlib.Core.Bool.{Bool, false, true, _&&_}
 use mathlib.Core.Path.{_∙_, _≡_, sym}
 use borrow.Author.Tests.{le-leb, leb-true, lt-leb}
 use lib.Dec.{leb}
 use Rattle.definition.specs.Limits.{baseLimits}
+use Rattle.definition.specs.Outcome as Outcomes
 use Rattle.plain.proofs.Logic.{and-left, and-right}
-use Rattle.numbers.specs.Gains.{Small, addedElement, gained, roomy}
+use Rattle.numbers.specs.Gains.{Small, Within, addedElement, gained, roomy}
 use Rattle.numbers.specs.Meaning.{statisticsMeant}
 use Rattle.numbers.specs.declared.Statistics.{Statistics}
 
@@ -45,12 +48,6 @@ module _ (s : Statistics) where
         small-lu = leb-true (s .«n_mult_subs_lu») (2 ^ 62) (and-right (A && B && C) D e);
       }
 
-  pub small-roomy : Small s → roomy (statisticsMeant s) ≡ true
-  unfolding roomy statisticsMeant
-  small-roomy h =
-      rw (le-leb (s .lnz) (2 ^ 62) (h .small-lnz), le-leb (s .«n_div») (2 ^ 62) (h .small-div), le-leb (s .«n_mult_subs_ldl») (2 ^ 62) (h .small-ldl))
-      (le-leb (s .«n_mult_subs_lu») (2 ^ 62) (h .small-lu))
-
   -- where it is counted, and where not
   pub is-added : (f r : ℕ) → f + r ≤ baseLimits .mostColumns → (b : Bool) → b ≡ roomy (statisticsMeant s) → b ≡ true
       → (t : Statistics) → statisticsMeant t ≡ gained f r (statisticsMeant s) → statisticsMeant t ≡ addedElement f r (statisticsMeant s)
@@ -64,3 +61,20 @@ module _ (s : Statistics) where
   pub not-roomy : (f r : ℕ) → f + r ≤ baseLimits .mostColumns → (b : Bool) → b ≡ roomy (statisticsMeant s) → b ≡ false → statisticsMeant s ≡ addedElement f r (statisticsMeant s)
   unfolding addedElement
   not-roomy f r h b e y = rw (le-leb (f + r) (baseLimits .mostColumns) h, sym e ∙ y)
+
+-- the totals while at most N variables are gone
+pub within-roomy : (N g : ℕ) (x : Outcomes.Statistics) → g ≤ N → N * (N * N) ≤ 2 ^ 62 → Within N g x → roomy x ≡ true
+unfolding roomy
+within-roomy N g x h k w =
+    let z = mul-le-mul-right (N * N) h in
+    rw (
+      le-leb (x .lnz) (2 ^ 62) (omega (arith, w .below-lnz, z)),
+      le-leb (x .nDiv) (2 ^ 62) (omega (arith, w .below-div, z)),
+      le-leb (x .nMultSubsLdl) (2 ^ 62) (omega (arith, w .below-ldl, z)),
+    )
+    (le-leb (x .nMultSubsLu) (2 ^ 62) (omega (arith, w .below-lu, z)))
+
+-- so one more element is counted
+pub within-added : (N g f r : ℕ) (x : Outcomes.Statistics) → g ≤ N → N * (N * N) ≤ 2 ^ 62 → Within N g x → f + r ≤ baseLimits .mostColumns → addedElement f r x ≡ gained f r x
+unfolding addedElement
+within-added N g f r x h k w b = rw (le-leb (f + r) (baseLimits .mostColumns) b, within-roomy N g x h k w)

@@ -60,14 +60,3 @@ within-gained N g f r x h w =
       below-ldl = omega (arith, w .below-ldl);
       below-lu = omega (arith, w .below-lu);
     }
-
-pub within-small : (N g : ℕ) (s : Statistics) → g ≤ N → N * (N * N) ≤ 2 ^ 62 → Within N g (statisticsMeant s) → Small s
-unfolding statisticsMeant
-within-small N g s h k w =
-    let m : g * (N * N) ≤ N * (N * N) = mul-le-mul h (le-refl (N * N)) in
-    record {
-      small-lnz = omega (arith, w .below-lnz);
-      small-div = omega (arith, w .below-div);
-      small-ldl = omega (arith, w .below-ldl);
-      small-lu = omega (arith, w .below-lu);
-    }

@@ -8,6 +8,7 @@ use mathlib.Core.Logic.{_≢_}
 use mathlib.Core.Bool.{Bool, true, false}
 use mathlib.Core.List.{List, _∷_}
 use borrow.Author.Tests.{lt-ltb, ltb-true}
+use lib.Dec.{eqb}
 use lib.IntN.{ℤ}
 use lib.ListN.{length, getD}
 use Rattle.plain.proofs.Logic.{clash}
@@ -27,7 +28,7 @@ use Rattle.facts.proofs.Step.{after3, gone-after}
 use Rattle.facts.proofs.Stepped.{After, away, remains, afterMerge, afterTrim, inside, joined2, var-parent2}
 use Rattle.facts.proofs.Weighed.{pivot-heavy}
 use Rattle.facts.specs.Invariant.{Inv, Quotient, Var}
-use Rattle.cells.specs.Layout.{LEN, ELEN, PE, WANT}
+use Rattle.cells.specs.Layout.{DEGREE, ELEN, HEAD, LAST, LEN, NEXT, PE, W, WANT}
 use Rattle.cells.specs.View.{rd}
 use Rattle.chain.specs.Chained.{Chained}
 use Rattle.packed.specs.Gather.{Cut, cut, keptPart}
@@ -36,7 +37,7 @@ use Rattle.drawn.specs.Drawn.{Rest, Within}
 use Rattle.drawn.specs.Flags.{Flagged}
 use Rattle.drawn.specs.Log.{Logged}
 use Rattle.placing.specs.Model.{Spot, spot, placedAll, finished}
-use Rattle.placing.proofs.Whole.{Ready, placed-rest, placed-trimmed, placed-chained, placed-least, placed-count, placed-flagged, placed-logged, placed-size, placed-long}
+use Rattle.placing.proofs.Whole.{Ready, placed-rest, placed-trimmed, placed-chained, placed-least, placed-count, placed-flagged, placed-logged, placed-size, placed-long, placed-fields, placed-others}
 
 var-kept : (k : Kind) → isVariable k ≡ true → isMerged k ≡ false
 var-kept variable e = refl
@@ -167,6 +168,14 @@ module _ {n : ℕ} (keyOf : ℕ → ℕ) (aggressive : Bool) (st : State) (inv :
 
     pub long-after : length (kept1 .lists) ≡ length l
     long-after = placed-long n l s g3 p new cnt base lim h queues ready chained left size (omega arith) d narrow
+
+    -- every field that step 6 does not write, and those that it writes at the pivot alone
+    pub fields-after : (f v : ℕ) → eqb HEAD f ≡ false → eqb NEXT f ≡ false → eqb LAST f ≡ false → eqb DEGREE f ≡ false → eqb WANT f ≡ false → eqb LEN f ≡ false
+        → eqb ELEN f ≡ false → eqb W f ≡ false → eqb PE f ≡ false → rd n f done v ≡ rd n f s v
+    fields-after = placed-fields n l s g3 p new cnt base lim h queues ready chained left size (omega arith) d narrow
+
+    pub others-after : (f v : ℕ) → v ≢ p → eqb HEAD f ≡ false → eqb NEXT f ≡ false → eqb LAST f ≡ false → eqb DEGREE f ≡ false → eqb WANT f ≡ false → rd n f done v ≡ rd n f s v
+    others-after = placed-others n l s g3 p new cnt base lim h queues ready chained left size (omega arith) d narrow
 
     -- what the two functions say of themselves is what these theorems are about
     pub by-contracts : (from k : ℕ) (l2 s1 s2 : List ℤ) (count least : ℕ) → from ≡ rd n PE s p → k ≡ rd n LEN s p

@@ -35,12 +35,11 @@ same-length-2 c = search needs
 
 -- src/lib.rt:95:1
 returns : tie.Need-returns
-returns c =
-    (
-      search (needs, met-is),
-      search needs,
-      record { size = search needs; most = search needs; flag = search needs; merges = search needs },
-    )
+returns c = (
+  search (needs, met-is),
+  search needs,
+  record { size = search needs; most = search needs; flag = search needs; merges = search needs },
+)
 
 pub meet-spec : {M : Type 1} → statement M
 meet-spec =
