@@ -1,15 +1,13 @@
 -- The code's steps are the model's: one law for each way out of a function, its premises in the words of what was called.
 -- Assumes nothing.
-use Prim.Native.Nat.{ℕ, zero, suc, _+_, _-_, _<_, _≤_, _^_, max}
+use Prim.Native.Nat.{ℕ, zero, suc, _-_, _<_, _≤_, _^_, max}
 use native.Mathlib.Omega.{arith}
-use native.Mathlib.Nat.{max-eq-left, max-eq-right}
 use mathlib.Core.Bool.{Bool}
 use mathlib.Core.List.{List}
 use mathlib.Core.Logic.{_≢_, inl, inr}
-use mathlib.Core.Path.{_≡_, _∙_, ap, refl, sym, subst}
+use mathlib.Core.Path.{_≡_, _∙_, ap, refl}
 use borrow.Author.Tests.{le-ltb, lt-ltb}
 use lib.IntN.{ℤ}
-use Rattle.definition.specs.Outcome as Outcomes
 use Rattle.numbers.specs.Gains.{addedElement, begun, counted}
 use Rattle.numbers.specs.Meaning.{statisticsMeant}
 use Rattle.numbers.specs.declared.Statistics.{Statistics}
@@ -28,7 +26,6 @@ use Rattle.placing.specs.declared.Restored.{Restored}
 use Rattle.opening.specs.Begin.{pivoted}
 use Rattle.opening.specs.Start.{opened, setting}
 use Rattle.opening.specs.declared.Aside.{Aside}
-use Rattle.elimination.specs.declared.Eliminated.{Eliminated}
 use Rattle.elimination.specs.declared.Met.{Met}
 use Rattle.elimination.specs.declared.Reduced.{Reduced}
 use Rattle.elimination.specs.declared.Turn.{Turn}
@@ -49,12 +46,6 @@ pub reduced-is : (n me from k : ℕ) (aggressive : Bool) (flag merges : ℕ) (l 
     → reduction l₂ s₂ (record { size = size; merges = t .made }) ≡ reduced n me from k aggressive flag merges l s
 unfolding reduced
 reduced-is n me from k aggressive flag merges l s all s₁ l₂ s₂ t size ha h₁ h₂ hs = rw (hs, ha, ← h₁, ← h₂)
-
-pub larger-first : (a b : ℕ) → b ≤ a → a ≡ max a b
-larger-first a b h = sym (max-eq-left h)
-
-pub larger-second : (a b : ℕ) → a < b → b ≡ max a b
-larger-second a b h = sym (max-eq-right (omega arith))
 
 pub met-is : (n me from k : ℕ) (aggressive : Bool) (t : Turn) (l s l₁ s₁ : List ℤ) (r : Reduced) (most flag : ℕ) (s₂ : List ℤ) (w : Tally)
     → reduction l₁ s₁ r ≡ reduced n me from k aggressive (t .flag) (t .merges) l s → most ≡ max (t .most) (r .size) → flag ≡ plus (t .flag) most
@@ -147,16 +138,21 @@ module _ (n : ℕ) (aggressive : Bool) (dense k : ℕ) (l₀ s₀ : List ℤ) (w
 
 -- ---- the whole
 
-pub whole-is : (n limit free : ℕ) (aggressive : Bool) (l s s₁ : List ℤ) (a : Aside) (gone : ℕ) (t : Turn) (x : Statistics) (l′ s′ : List ℤ) (w : Work) (y : Statistics)
-    → setting s₁ a ≡ opened n limit s → gone ≡ plus (a .roots) (a .dense) → t ≡ firstTurn gone free → statisticsMeant x ≡ begun (a .dense)
+pub first-is : (roots dense free gone : ℕ) → gone ≡ plus roots dense
+    → record { gone = gone; least = 0; flag = 2; most = 0; merges = 0; base = free; free = free; made = 0; collections = 0 } ≡ firstTurn (plus roots dense) free
+unfolding firstTurn
+first-is roots dense free gone h = rw (← h)
+
+pub whole-is : (n limit free : ℕ) (aggressive : Bool) (l s s₁ : List ℤ) (a : Aside) (t : Turn) (x : Statistics) (l′ s′ : List ℤ) (w : Work) (y : Statistics)
+    → setting s₁ a ≡ opened n limit s → t ≡ firstTurn (plus (a .roots) (a .dense)) free → statisticsMeant x ≡ begun (a .dense)
     → Ran n aggressive (a .dense) n l s₁ (record { turn = t; statistics = x }) l′ s′ w
     → statisticsMeant y ≡ closed (a .dense) (w .turn .collections) (statisticsMeant (w .statistics))
     → Whole n limit free aggressive l s l′ s′ (record { statistics = y; merges = w .turn .merges })
-whole-is n limit free aggressive l s s₁ a gone t x l′ s′ w y ho hg ht hx hr hy =
+whole-is n limit free aggressive l s s₁ a t x l′ s′ w y ho ht hx hr hy =
     record {
       first = record { turn = t; statistics = x };
       last = w;
-      begins = rw (← ho) (ht ∙ ap (λ (z : ℕ). firstTurn z free) hg);
+      begins = rw (← ho) ht;
       none = rw (← ho) hx;
       ran = rw (← ho) hr;
       closes = rw (← ho) hy;

@@ -1,5 +1,3 @@
--- The definitions that the contracts of `elimination` cite, and what its theorems say of the memory.
+-- The definitions that the contracts of `elimination` cite.
 pub mod Model
 pub mod Runs
-pub mod Standing
-pub mod Result

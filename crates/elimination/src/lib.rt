@@ -2,7 +2,7 @@
 // Nothing here asks for a memory that makes sense: a contract is the function's own model, and the laws of `proofs/` say what it does to the graph.
 ghost use mathlib.Core.Path.{_≡_};
 ghost use Prim.Native.Nat.{_+_, _<_, _^_, max};
-ghost use Rattle.cells.specs.View.{Room};
+ghost use Rattle.cells.specs.View.{Room, plus};
 ghost use Rattle.packed.specs.Gather.{Brief};
 ghost use Rattle.numbers.specs.Meaning.{statisticsMeant};
 ghost use Rattle.elimination.specs.Model.{Small, Few, weighedRow, weighedRows, reduction, reduced, meeting, met, freeEnd, placement, placed, nextTurn, stage, settled, ended, pivotStep, elementCounted, firstTurn, closed};
@@ -322,11 +322,12 @@ fn eliminate_all(
     }
 }
 
-// The numbers of the first turn: `gone` rows are set aside, and the lists are packed up to `free`.
-fn first_turn(gone: usize, free: usize) -> Turn
-    requires { ⌜ (gone < 2 ^ 63) × (free < 2 ^ 63) ⌝ }
-    ensures { λ r. ⌜ (r ≡ firstTurn gone free) × Small r ⌝ }
+// The numbers of the first turn: roots and dense rows are set aside, and the lists are packed up to `free`.
+fn first_turn(roots: usize, dense: usize, free: usize) -> Turn
+    requires { ⌜ (roots < 2 ^ 63) × (dense < 2 ^ 63) × (free < 2 ^ 63) ⌝ }
+    ensures { λ r. ⌜ (r ≡ firstTurn (plus roots dense) free) × Small r ⌝ }
 {
+    let gone = cells::plus(roots, dense);
     Turn {
         gone: gone,
         least: 0,
@@ -368,7 +369,7 @@ pub fn eliminate(
     ensures { λ r. ⌜ Whole n limit free aggressive (now (lists .entry)) (now (s .entry)) (now (lists .exit)) (now (s .exit)) r × Room n (now (s .exit)) ⌝ }
 {
     let a = opening::start(s, n, limit);
-    let turn = first_turn(cells::plus(a.roots, a.dense), free);
+    let turn = first_turn(a.roots, a.dense, free);
     let x = numbers::first_statistics(a.dense);
     let w = eliminate_all(
         lists,

@@ -4,7 +4,6 @@ use Rattle.elimination.proofs.eliminate.Statement.{statement}
 use Rattle.elimination.proofs.eliminate.Tie as tie
 use Rattle.elimination.proofs.eliminate.Reads as reads
 use Rattle.elimination.proofs.eliminate.Lts as lts
-use Rattle.cells.proofs.plus.Reads as plus-reads
 use Rattle.elimination.proofs.close_statistics.Reads as close-statistics-reads
 use Rattle.elimination.proofs.eliminate_all.Reads as eliminate-all-reads
 use Rattle.elimination.proofs.first_turn.Reads as first-turn-reads
@@ -14,10 +13,6 @@ use Rattle.opening.proofs.start.Reads as start-reads
 -- src/lib.rt:353:9
 start-requires : tie.Need-start-requires
 start-requires c κs = search needs
-
--- src/lib.rt:354:27
-plus-requires : tie.Need-plus-requires
-plus-requires c κs = search needs
 
 -- src/lib.rt:354:9
 first-turn-requires : tie.Need-first-turn-requires
@@ -52,7 +47,6 @@ eliminate-spec =
     tie.close
     (tie.spec
     start-requires
-    plus-requires
     first-turn-requires
     first-statistics-requires
     eliminate-all-requires

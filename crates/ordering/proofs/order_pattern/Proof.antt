@@ -1,0 +1,61 @@
+-- `ordering::order_pattern` meets its contract.
+-- Assumes nothing.
+use borrow.Author.Needs.{needs}
+use Rattle.definition.specs.Limits.{baseLimits}
+use Rattle.ordering.proofs.Steps.{course}
+use Rattle.ordering.proofs.order_pattern.Statement.{statement}
+use Rattle.ordering.proofs.order_pattern.Tie as tie
+
+take-pattern-requires : tie.Need-take-pattern-requires
+take-pattern-requires c κs = search needs
+
+limit-of-requires : tie.Need-limit-of-requires
+limit-of-requires c κs = search needs
+
+eliminate-requires : tie.Need-eliminate-requires
+eliminate-requires c κs = search needs
+
+order-tree-requires : tie.Need-order-tree-requires
+unfolding baseLimits
+order-tree-requires c κs = search needs
+
+statistics-of-requires : tie.Need-statistics-of-requires
+statistics-of-requires c κs = search needs
+
+same-length : tie.Need-same-length
+same-length c = search needs
+
+same-length-2 : tie.Need-same-length-2
+same-length-2 c = search needs
+
+same-length-3 : tie.Need-same-length-3
+same-length-3 c = search needs
+
+same-length-4 : tie.Need-same-length-4
+same-length-4 c = search needs
+
+returns : tie.Need-returns
+returns c =
+    let taken = c .before .before .before .before .before .before .before .before .before .before .before .before .before .before .before .before .take-pattern .ensures in
+    course _ _ _ _ _ _ _ _ _ _ _ _ _ _ _ _ _ _ _
+    (c .statistics-of .ensures)
+    (c .before .before .before .before .order-tree .ensures)
+    (c .before .before .before .before .before .before .before .before .before .before .eliminate .ensures .0)
+    (c .before .before .before .before .before .before .before .before .before .before .before .before .before .limit-of .ensures)
+    (taken .0)
+    (taken .1)
+
+pub order-pattern-spec : {M : Type 1} → statement M
+order-pattern-spec =
+    tie.close
+    (tie.spec
+    take-pattern-requires
+    limit-of-requires
+    eliminate-requires
+    order-tree-requires
+    statistics-of-requires
+    same-length
+    same-length-2
+    same-length-3
+    same-length-4
+    returns)

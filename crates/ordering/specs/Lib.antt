@@ -1,0 +1,3 @@
+-- What the contracts of `ordering` cite.
+pub mod Left
+pub mod Course
