@@ -4,7 +4,8 @@
 --   cells 8·n to 16·n + 1     table t at t·n + i, for t from 8 to 15; table 15 has n + 1 cells
 --   cells 16·n + 16 on        the rows of the cleaned pattern; nnz of them in the least room
 --
--- An index has one meaning in each phase; names that share one belong to different phases, but for TMP, which a gather is done with before a key is written.
+-- An index has one meaning in each phase; names that share one belong to different phases, but for TMP, which a gather is done with before a key is written, and
+-- HNEXT, which a gather is done with then too.
 -- Assumes nothing.
 use Prim.Native.Nat.{ℕ}
 
@@ -51,7 +52,7 @@ HEAD = 8
 abbrev pub HHEAD : ℕ
 HHEAD = 9
 
--- the variable before i with i's key; n is none
+-- the variable before i with i's key; n is none. During a gather: the pivot's elements (`save` of `opening`), so nothing may rely on it between two pivots.
 abbrev pub HNEXT : ℕ
 HNEXT = 10
 

@@ -1,1 +1,2 @@
 -- Laws of what the memory holds. None belongs to a function.
+pub mod Buckets

@@ -10,7 +10,7 @@ use borrow.Author.Tests.{ltb-true, ltb-false}
 use Rattle.plain.proofs.Logic.{either, clash, not-back}
 use Rattle.plain.proofs.Members.{member-here, member-there, member-append, member-rotate, kept-was, kept-passes, not-kept-at, apart, not-kept}
 use Rattle.plain.proofs.Repeats.{distinct-rotate, distinct-append}
-use Rattle.plain.proofs.Sums.{total-parts, total-members, total-zero}
+use Rattle.plain.proofs.Sums.{total-parts, total-members, total-zero, total-keep}
 use Rattle.plain.specs.Lists.{member, keep, total, rotate}
 use Rattle.plain.specs.Members.{Distinct, Within}
 use Rattle.definition.specs.State.{Graph, kind, weight, hasWeight, isElement, mergeInto, putElements, putVariables, putDegree}
@@ -26,6 +26,13 @@ use Rattle.facts.proofs.Facts.{kept-element, kept-variable, kept-distin
 use Rattle.facts.proofs.Same.{same-entries}
 use Rattle.facts.proofs.Sizes.{sized-dropped, sized-trimOne}
 use Rattle.facts.specs.Invariant.{Sized, Var, Quotient}
+
+-- rows without weight add nothing
+pub heavy-all : (g : Graph) (xs : List ℕ) → total (weight g) (keep (hasWeight g) xs) ≡ total (weight g) xs
+heavy-all g xs =
+    total-keep (weight g) (hasWeight g) xs
+    ∙ total-members (λ v. cond (hasWeight g v) (weight g v) 0) (weight g) xs
+    (λ v m. either (cond (hasWeight g v) (weight g v) 0 ≡ weight g v) (hasWeight g v) (λ e. rw e) (λ e. rw e (omega (arith, ltb-false 0 (weight g v) e))))
 
 -- ---- step 4 moves weight to the pivot only
 

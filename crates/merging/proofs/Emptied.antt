@@ -24,6 +24,7 @@ use Rattle.definition.specs.Merge.{mergeAll}
 use Rattle.definition.specs.State.{Graph, hasWeight, weight}
 use Rattle.facts.specs.Classes.{bucketOf, mergeBuckets}
 use Rattle.packed.proofs.Picked.{foldl-append}
+use Rattle.drawn.proofs.Buckets.{chain-same}
 use Rattle.drawn.specs.Buckets.{Chain}
 use Rattle.merging.specs.Rows.{Now, Row}
 use Rattle.merging.specs.Model.{Merging, bucketRun, mergedKey, mergedOf, merging}
@@ -33,7 +34,7 @@ use Rattle.merging.proofs.Kept.{Kept, entries-buckets, kept-fewer, kept
 use Rattle.merging.proofs.Light.{light-all}
 use Rattle.merging.proofs.Ran.{Ready, ran}
 use Rattle.merging.proofs.Rows.{field-now}
-use Rattle.merging.proofs.Walked.{chain-same, oneKey}
+use Rattle.merging.proofs.Walked.{oneKey}
 
 -- ---- bucket after bucket
 

@@ -19,6 +19,7 @@ use Rattle.cells.specs.View.{plus, rd}
 use Rattle.definition.specs.Merge.{alike, entriesOf, key, mergeAll, mergeOne, sameLists}
 use Rattle.definition.specs.State.{Graph, mergeInto}
 use Rattle.facts.proofs.Absorbing.{absorbing, fold-chosen}
+use Rattle.drawn.proofs.Buckets.{chain-same}
 use Rattle.drawn.specs.Buckets.{Chain}
 use Rattle.merging.specs.Rows.{Now, Row}
 use Rattle.merging.specs.Model.{Comparing, Merging, bucketRun, comparing, flagged, followers, markedList, mergedAt, mergedInto, merging, walked}
@@ -26,7 +27,7 @@ use Rattle.merging.specs.declared.Tally.{Tally}
 use Rattle.merging.proofs.Kept.{Kept, entries-row, kept-fewer, kept-self, kept-then}
 use Rattle.merging.proofs.Marks.{held-rest, mark-below, mark-higher, markAll, marking-all, marks, marks-field, miss}
 use Rattle.merging.proofs.Rows.{held, marks-now}
-use Rattle.merging.proofs.Walked.{Behind, Walked, chain-same, oneKey, walked as along}
+use Rattle.merging.proofs.Walked.{Behind, Walked, oneKey, walked as along}
 use Rattle.merging.proofs.Walks.{run-over}
 
 module _ (n : ℕ) (l : List ℤ) (p : ℕ) (new : List ℕ) (cnt base lim : ℕ) where

@@ -6,7 +6,7 @@ use native.Mathlib.Omega.{arith}
 use mathlib.Core.Bool.{true, false, not}
 use mathlib.Core.List.{List, [], _∷_, foldl}
 use mathlib.Core.Logic.{_≢_}
-use mathlib.Core.Path.{_∙_, _≡_, ap, refl, subst, subst⁻¹, sym}
+use mathlib.Core.Path.{_∙_, _≡_, ap, refl, subst, sym}
 use borrow.Author.Tests.{lt-ltb}
 use lib.Dec.{eqb}
 use lib.IntN.{ℤ}
@@ -21,6 +21,7 @@ use Rattle.cells.specs.View.{Room, plus, rd, up}
 use Rattle.definition.specs.Merge.{alike, entriesOf, key, mergeOne, sameLists}
 use Rattle.definition.specs.State.{Graph, mergeInto, putKind, putParent, putReps, putWeight}
 use Rattle.drawn.specs.Buckets.{Chain}
+use Rattle.drawn.proofs.Buckets.{chain-same}
 use Rattle.merging.specs.Rows.{Now, Row}
 use Rattle.merging.specs.Model.{Comparing, alikeNow, compared, comparing, followers, joined, passedNext, takenNext}
 use Rattle.merging.proofs.Joins.{join-field, join-other, join-room}
@@ -31,12 +32,6 @@ use Rattle.merging.proofs.Walks.{at-end}
 -- within a bucket keys need no comparison
 abbrev pub oneKey : ℕ → ℕ
 oneKey sum = 0
-
--- the same links along a list
-pub chain-same : (n : ℕ) (f g : ℕ → ℕ) (xs : List ℕ) (x : ℕ) → ((v : ℕ) → In v xs → g v ≡ f v) → Chain n f x xs → Chain n g x xs
-chain-same n f g [] x e c = c
-chain-same n f g (y ∷ ys) x e c =
-    (c .0, c .1, chain-same n f g ys (g y) (λ v m. e v (member-there v y ys m)) (subst⁻¹ (λ (z : ℕ). Chain n f z ys) (e y (member-here y ys)) (c .2)))
 
 module _ (n : ℕ) (l : List ℤ) (p : ℕ) (new : List ℕ) (cnt base lim i flag : ℕ) where
   -- what the walk along js, behind `last`, leaves of s and h

@@ -4,9 +4,9 @@ use Prim.Native.Nat.{ℕ}
 use mathlib.Core.Path.{ap, _≡_, refl, sym, _∙_}
 use mathlib.Core.Logic.{_≢_}
 use mathlib.Core.Bool.{Bool, true, false, _||_, cond}
-use mathlib.Core.List.{List, [], _∷_, _++_, reverse, reverseAux, foldl, flatMap, append-assoc}
-use Rattle.plain.proofs.Logic.{or-left, or-right, clash, and-left, and-right}
-use Rattle.plain.proofs.Members.{member-first, member-there, no-member, member-cases, member-here, not-there, not-here}
+use mathlib.Core.List.{List, [], _∷_, _++_, reverse, reverseAux, foldl, flatMap, append-assoc, append-nil, reverse-cons}
+use Rattle.plain.proofs.Logic.{or-left, or-right, clash, and-left, and-right, bool-ext}
+use Rattle.plain.proofs.Members.{member-first, member-there, no-member, member-cases, member-here, not-there, not-here, member-flatMap, member-joined}
 use Rattle.plain.specs.Lists.{consIf, keep, member, every, leading, trailing}
 use Rattle.plain.specs.Members.{All, In, Distinct}
 use Rattle.plain.proofs.Turns.{turn}
@@ -170,3 +170,20 @@ keep-append p (x ∷ xs) ys = go (p x) (keep-append p xs ys)
 pub foldl-snoc : {A B : Type 0} (f : A → B → A) (m : A) (xs : List B) (x : B) → foldl f m (xs ++ (x ∷ [])) ≡ f (foldl f m xs) x
 foldl-snoc f m [] x = refl
 foldl-snoc f m (y ∷ xs) x = foldl-snoc f (f m y) xs x
+
+-- who stands in a joined list
+pub member-hits : (x : ℕ) (f : ℕ → List ℕ) (xs : List ℕ) → member x (flatMap f xs) ≡ hits (λ v. member x (f v)) xs
+member-hits x f xs =
+    bool-ext (member x (flatMap f xs)) (hits (λ v. member x (f v)) xs)
+    (λ m. let r = member-flatMap x f xs m in hits-at (λ v. member x (f v)) (r .0) xs (r .1) (r .2))
+    (λ m. let r = hits-where (λ v. member x (f v)) xs m in member-joined x (r .0) f xs (r .1) (r .2))
+
+pub keep-reverse : (p : ℕ → Bool) (xs : List ℕ) → keep p (reverse xs) ≡ reverse (keep p xs)
+unfolding keep
+keep-reverse p [] = refl
+keep-reverse p (x ∷ xs) =
+    rw (reverse-cons x xs) (keep-append p (reverse xs) (x ∷ []) ∙ ap (λ (y : List ℕ). y ++ consIf (p x) x []) (keep-reverse p xs) ∙ last (p x))
+  where
+    last : (b : Bool) → reverse (keep p xs) ++ consIf b x [] ≡ reverse (consIf b x (keep p xs))
+    last true = sym (reverse-cons x (keep p xs))
+    last false = append-nil (reverse (keep p xs))

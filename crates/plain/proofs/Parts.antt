@@ -1,8 +1,9 @@
 -- Parts of a list that pass a test, and lists joined.
 -- Assumes nothing.
-use Prim.Native.Nat.{ℕ, suc, _+_}
+use Prim.Native.Nat.{ℕ, suc, _+_, _-_, _<_}
 use native.Mathlib.Nat.{zero-add}
-use mathlib.Core.Path.{_≡_, refl, sym, ap, _∙_}
+use native.Mathlib.Omega.{arith}
+use mathlib.Core.Path.{_≡_, refl, sym, ap, _∙_, subst}
 use mathlib.Core.Logic.{_⊎_, inl, inr}
 use mathlib.Core.Bool.{Bool, true, false, _&&_}
 use mathlib.Core.List.{List, [], _∷_, _++_, flatMap}
@@ -11,8 +12,10 @@ use borrow.Author.Tests.{eqb-true, eqb-false, ne-eqb}
 use Rattle.plain.proofs.Folds.{flatMap-append, keep-append}
 use Rattle.plain.proofs.Members.{member-here, member-there, member-either, apart, no-member, member-nil, not-cons, member-right}
 use Rattle.plain.proofs.Sums.{countUp-snoc}
+use Rattle.plain.proofs.Entries.{entries-append, entries-cons}
 use Rattle.plain.specs.Lists.{member, keep, consIf, upTo}
 use Rattle.plain.specs.Members.{In, Distinct}
+use Rattle.plain.specs.Turns.{entries}
 
 pub keep-last : (p : ℕ → Bool) (k : ℕ) → keep p (upTo (suc k)) ≡ keep p (upTo k) ++ consIf (p k) k []
 unfolding keep
@@ -79,3 +82,11 @@ pub middle-new : (xs : List ℕ) (v : ℕ) (ys : List ℕ) → Distinct (xs ++ (
 middle-new [] v ys d = member-nil v
 middle-new (x ∷ xs) v ys d =
     not-cons v x xs (λ e. apart x v (xs ++ (v ∷ ys)) (d .0) (member-right v xs (v ∷ ys) (member-here v ys)) (sym e)) (middle-new xs v ys (d .1))
+
+-- an entry of a list without repeats does not stand before its place
+pub entries-once : (F : ℕ → ℕ) (p k t : ℕ) → t < k → Distinct (entries F p k) → member (F (p + t)) (entries F p t) ≡ false
+entries-once F p k t b d =
+    let e : t + suc (k - suc t) ≡ k = omega arith in
+    let w : entries F p k ≡ entries F p t ++ (F (p + t) ∷ entries F (suc (p + t)) (k - suc t)) =
+    ap (entries F p) (sym e) ∙ entries-append F p t (suc (k - suc t)) ∙ ap (λ (y : List ℕ). entries F p t ++ y) (entries-cons F (p + t) (k - suc t)) in
+    middle-new (entries F p t) (F (p + t)) (entries F (suc (p + t)) (k - suc t)) (subst Distinct w d)

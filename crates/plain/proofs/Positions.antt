@@ -12,7 +12,7 @@ use lib.Seq.{getD-append-add, getD-set-same, set-out, getD-set-other}
 use borrow.Author.Tests.{eqb-true, eqb-false, eq-eqb, ne-eqb, ltb-true, ltb-false}
 use Rattle.plain.proofs.Entries.{entries-at, entries-length}
 use Rattle.plain.proofs.Logic.{either, or-elim, and-left, and-right}
-use Rattle.plain.proofs.Members.{member-first, member-there, no-member, member-either}
+use Rattle.plain.proofs.Members.{member-first, member-there, no-member, member-either, member-left, member-right}
 use Rattle.plain.proofs.Repeats.{length-countUp, length-below, length-missing}
 use Rattle.plain.specs.Lists.{member, position, countUp, every}
 use Rattle.plain.specs.Members.{In, Distinct, All}
@@ -80,6 +80,23 @@ drop-was [] zero v h = no-member v h
 drop-was [] (suc j) v h = no-member v h
 drop-was (x ∷ l) zero v h = let r = position-is v (x ∷ l) h in (position v (x ∷ l), omega arith, r .0, r .1)
 drop-was (x ∷ l) (suc j) v h = let r = drop-was l j v h in (suc (r .0), omega (arith, r .1), omega (arith, r .2), r .3)
+
+-- the rest of a longer list
+pub drop-left : (x k : ℕ) (xs ys : List ℕ) → In x (drop k xs) → In x (drop k (xs ++ ys))
+drop-left x zero xs ys m = member-left x xs ys m
+drop-left x (suc k) [] ys m = no-member x m
+drop-left x (suc k) (z ∷ xs) ys m = drop-left x k xs ys m
+
+pub drop-right : (x k : ℕ) (xs ys : List ℕ) → k ≤ length xs → In x ys → In x (drop k (xs ++ ys))
+drop-right x zero xs ys b m = member-right x xs ys m
+drop-right x (suc k) [] ys b m = absurd (omega arith)
+drop-right x (suc k) (z ∷ xs) ys b m = drop-right x k xs ys (omega arith) m
+
+-- whoever stands behind place t is at a later place
+pub later-place : (xs : List ℕ) (t p : ℕ) → Distinct xs → In p (drop (suc t) xs) → t < position p xs
+later-place xs t p d m =
+    let r = drop-was xs (suc t) p m in
+    omega (arith, r .1, position-getD xs (r .0) d (r .2), ap (λ (y : ℕ). position y xs) (r .3))
 
 -- what stands behind the first list
 pub getD-behind : {A : Type 0} (xs ys : List A) (d : A) (k : ℕ) → length xs ≤ k → getD (xs ++ ys) k d ≡ getD ys (k - length xs) d

@@ -1,17 +1,17 @@
 -- Lists without repeats, and their lengths: LL4, LL5, LL6 of the proof plan.
 -- Assumes nothing.
-use Prim.Native.Nat.{ℕ, zero, suc, _≤_, _<_}
+use Prim.Native.Nat.{ℕ, zero, suc, _≤_, _<_, _+_}
 use native.Mathlib.Omega.{arith}
 use mathlib.Core.Path.{_≡_, ap, sym, _∙_, refl}
 use mathlib.Core.Logic.{_≢_}
-use mathlib.Core.Bool.{false, Bool, true, not}
+use mathlib.Core.Bool.{false, Bool, true, not, _&&_}
 use mathlib.Core.List.{List, [], _∷_, _++_, map, reverse, reverseAux}
-use lib.Dec.{eqb}
+use lib.Dec.{eqb, ltb}
 use lib.ListN.{drop, length, length-append}
-use borrow.Author.Tests.{eq-eqb}
+use borrow.Author.Tests.{eq-eqb, lt-ltb}
 use Rattle.plain.proofs.Logic.{either, and-left, and-right, and-both, bool-ext}
 use Rattle.plain.proofs.Members.{member-above, not-in, map-was, not-kept, member-nil, not-here, member-append, not-cons, not-there, member-here, apart, member-there, no-member, member-cases, member-delete, member-upTo, every-within, within-every}
-use Rattle.plain.specs.Lists.{countUp, member, consIf, keep, rotate, delete, upTo, sameMembers, every}
+use Rattle.plain.specs.Lists.{countUp, member, consIf, keep, rotate, delete, upTo, sameMembers, every, isEmpty}
 use Rattle.plain.specs.Members.{Distinct, In, Within}
 
 pub distinct-countUp : (a k : ℕ) → Distinct (countUp a k)
@@ -157,3 +157,10 @@ pub same-by-half : (xs ys : List ℕ) → Distinct xs → length xs ≡ length y
 same-by-half xs ys d l =
     bool-ext (every (λ x. member x ys) xs) (sameMembers xs ys)
     (λ h. let w = every-within xs ys h in within-same xs ys w (within-back xs ys d l w)) (λ h. within-every xs ys (same-within xs ys h .0))
+
+-- nothing stands in either
+pub some-length : (xs ys : List ℕ) → ltb 0 (length xs + length ys) ≡ not (isEmpty xs && isEmpty ys)
+unfolding isEmpty
+some-length [] [] = refl
+some-length [] (y ∷ ys) = lt-ltb 0 (0 + suc (length ys)) (omega arith)
+some-length (x ∷ xs) ys = lt-ltb 0 (suc (length xs) + length ys) (omega arith)

@@ -1,7 +1,8 @@
 -- Sums over lists: LL1, LL2, LL3 of the proof plan, and what a sum keeps when one number moves to another place.
 -- Assumes nothing.
-use Prim.Native.Nat.{ℕ, _+_, zero, _≤_, _<_, suc}
+use Prim.Native.Nat.{ℕ, _+_, zero, _≤_, _<_, suc, _*_}
 use native.Mathlib.Omega.{arith}
+use native.Mathlib.Nat.{suc-mul}
 use mathlib.Core.Path.{ap, _≡_, refl, _∙_, sym}
 use mathlib.Core.Logic.{_≢_}
 use mathlib.Core.Bool.{Bool, cond, true, false, not}
@@ -12,8 +13,8 @@ use borrow.Author.Tests.{ne-eqb, eq-eqb}
 use Rattle.plain.proofs.Entries.{entries-whole, entries-counted}
 use Rattle.plain.proofs.Members.{member-here, member-there, no-member, member-cases, not-here, not-there, member-delete, apart, delete-apart, delete-was, member-kept, kept-passes, member-upTo}
 use Rattle.plain.proofs.Repeats.{distinct-delete, distinct-keep, distinct-countUp}
-use Rattle.plain.specs.Lists.{total, consIf, keep, member, delete, countUp, upTo}
-use Rattle.plain.specs.Members.{All, Distinct, Within}
+use Rattle.plain.specs.Lists.{total, consIf, keep, member, delete, countUp, upTo, rotate}
+use Rattle.plain.specs.Members.{All, Distinct, Within, In}
 
 module _ {A : Type 0} where
   pub total-append : (f : A → ℕ) (xs ys : List A) → total f (xs ++ ys) ≡ total f xs + total f ys
@@ -198,3 +199,15 @@ total-moved f g a b xs d ma mb n e h =
       total-pick f b (delete a xs) (distinct-delete a xs d) m,
       total-pick g b (delete a xs) (distinct-delete a xs d) m,
     )
+
+pub total-rotate : (f : ℕ → ℕ) (xs : List ℕ) → total f (rotate xs) ≡ total f xs
+unfolding rotate total
+total-rotate f [] = refl
+total-rotate f (x ∷ xs) = omega (arith, total-append f xs (x ∷ []), total-one f x)
+
+-- each summand is at most b
+pub total-most : (f : ℕ → ℕ) (b : ℕ) (xs : List ℕ) → ((x : ℕ) → In x xs → f x ≤ b) → total f xs ≤ length xs * b
+unfolding total
+total-most f b [] h = omega arith
+total-most f b (x ∷ xs) h =
+    omega (arith, h x (member-here x xs), total-most f b xs (λ y m. h y (member-there y x xs m)), suc-mul (length xs) b)

@@ -27,7 +27,6 @@ use Rattle.drawn.specs.Flags.{Flagged}
 use Rattle.drawn.specs.Log.{Logged}
 use Rattle.placing.proofs.Finish.{chained-after, count-after, fields-after, flagged-after, least-after, logged-after, long-after, others-after, rest-after, size-after, trimmed-after}
 use Rattle.elimination.specs.declared.Turn.{Turn}
-use Rattle.numbers.specs.Gains.{Within}
 use Rattle.standing.proofs.Begun.{Before, begun, chosen, long₁, pivot-var}
 use Rattle.standing.proofs.Merges.{chained₄, flagged₄, merged₄, merges, two₄}
 use Rattle.standing.proofs.Places.{done₅, gone-low, gone-next, kept₅, left-few, next, rest-low, spot₅}

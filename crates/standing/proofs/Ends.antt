@@ -1,6 +1,6 @@
 -- The end: no row has a list any more, so the memory holds all that the tree asks for; and the statistics are the definition's.
 -- Assumes nothing.
-use Prim.Native.Nat.{ℕ, zero, suc, _<_, _≤_}
+use Prim.Native.Nat.{ℕ, _≤_}
 use native.Mathlib.Omega.{arith}
 use native.Mathlib.Nat.{mul-le-mul}
 use mathlib.Core.Bool.{Bool, cond, false, false≢true, true, _&&_}
@@ -9,13 +9,11 @@ use mathlib.Core.Logic.{⊎-elim}
 use mathlib.Core.Path.{_≡_, _∙_, ap, refl, sym}
 use borrow.Author.Tests.{ltb-true}
 use lib.IntN.{ℤ}
-use lib.ListN.{drop, length}
+use lib.ListN.{length}
 use Rattle.plain.proofs.Logic.{either}
-use Rattle.plain.proofs.Members.{apart, member-there, no-member}
-use Rattle.plain.proofs.Positions.{position-there}
+use Rattle.plain.proofs.Positions.{later-place}
 use Rattle.plain.proofs.Sums.{total-zero}
-use Rattle.plain.specs.Lists.{position, total}
-use Rattle.plain.specs.Members.{Distinct, In}
+use Rattle.plain.specs.Lists.{total}
 use Rattle.definition.specs.Limits.{baseLimits}
 use Rattle.definition.specs.Outcome as Outcomes
 use Rattle.definition.specs.Room.{Room}
@@ -35,21 +33,6 @@ use Rattle.tree.specs.Final.{Final}
 use Rattle.elimination.specs.declared.Turn.{Turn}
 use Rattle.elimination.specs.Model.{closed}
 use Rattle.standing.specs.Standing.{Standing}
-
-drop-was : (p : ℕ) (xs : List ℕ) (k : ℕ) → In p (drop k xs) → In p xs
-drop-was p xs zero m = m
-drop-was p [] (suc k) m = no-member p m
-drop-was p (x ∷ xs) (suc k) m = member-there p x xs (drop-was p xs k m)
-
--- whoever stands behind the row at t is at a later place
-later-place : (xs : List ℕ) (t p : ℕ) → Distinct xs → In p (drop (suc t) xs) → t < position p xs
-later-place [] t p d m = no-member p m
-later-place (x ∷ xs) zero p d m =
-    let e = position-there p x xs (λ q. apart x p xs (d .0) m (sym q)) in
-    omega (arith, e)
-later-place (x ∷ xs) (suc t) p d m =
-    let e = position-there p x xs (λ q. apart x p xs (d .0) (drop-was p xs (suc t) m) (sym q)) in
-    omega (arith, e, later-place xs t p (d .1) m)
 
 merged-is : (k : Kind) → isMerged k ≡ true → k ≡ merged
 merged-is variable e = absurd (false≢true e)

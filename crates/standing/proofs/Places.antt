@@ -2,14 +2,11 @@
 -- Assumes nothing.
 use Prim.Native.Nat.{ℕ, _+_, _-_, _<_, _≤_}
 use native.Mathlib.Omega.{arith}
-use mathlib.Core.Bool.{Bool, cond}
+use mathlib.Core.Bool.{Bool}
 use mathlib.Core.List.{List, _∷_}
 use mathlib.Core.Path.{_≡_, _∙_, ap, refl, sym}
-use borrow.Author.Tests.{ltb-false}
 use lib.IntN.{ℤ}
-use Rattle.plain.proofs.Logic.{either}
 use Rattle.plain.proofs.Members.{not-kept}
-use Rattle.plain.proofs.Sums.{total-keep, total-members}
 use Rattle.plain.specs.Lists.{keep, total}
 use Rattle.definition.specs.Elimination.{eliminate, finish}
 use Rattle.definition.specs.Merge.{plainKey}
@@ -22,7 +19,7 @@ use Rattle.facts.proofs.Flags.{new-element-most}
 use Rattle.facts.proofs.Step.{degree-p, restOf, survivorsOf}
 use Rattle.facts.proofs.Stepped.{afterMerge, afterTrim, joined2}
 use Rattle.facts.proofs.Theorem.{inv-eliminate}
-use Rattle.facts.proofs.Weights.{conserved3}
+use Rattle.facts.proofs.Weights.{conserved3, heavy-all}
 use Rattle.cells.proofs.Slices.{plus-sum}
 use Rattle.cells.specs.Layout.{LEN, NV, PE, WANT}
 use Rattle.cells.specs.View.{plus, rd}
@@ -33,12 +30,6 @@ use Rattle.elimination.specs.Model.{Stage, compared, ended, freeEnd, met, nextT
 use Rattle.standing.proofs.Begun.{Before, begun, chosen, pivot-low, pivot-var}
 use Rattle.standing.proofs.Merges.{extent₄, left, merged₄, merges, most₄, place₄}
 use Rattle.standing.proofs.Trims.{taken₃, trims, weighed₃}
-
-heavy-all : (g : Graph) (xs : List ℕ) → total (weight g) (keep (hasWeight g) xs) ≡ total (weight g) xs
-heavy-all g xs =
-    total-keep (weight g) (hasWeight g) xs
-    ∙ total-members (λ v. cond (hasWeight g v) (weight g v) 0) (weight g) xs
-    (λ v m. either (cond (hasWeight g v) (weight g v) 0 ≡ weight g v) (hasWeight g v) (λ e. rw e) (λ e. rw e (omega (arith, ltb-false 0 (weight g v) e))))
 
 module _ {N n nd size : ℕ} {l s : List ℤ} {t : Turn} {x : Outcomes.Statistics} {st : State} {rm : room.Room} {p d : ℕ} (b : Before N n nd size l s t x st rm p d) (aggressive : Bool) where
   abbrev g : Graph

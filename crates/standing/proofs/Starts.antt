@@ -9,7 +9,6 @@ use lib.IntN.{ℤ}
 use lib.ListN.{getD, length}
 use Rattle.plain.specs.Lists.{total}
 use Rattle.plain.specs.Turns.{entries}
-use Rattle.definition.specs.Room.{Room}
 use Rattle.definition.specs.State.{Graph, Kind, variable, merged, element, dense, degree, denseRows, isElement, kind, startWeight, started}
 use Rattle.definition.specs.Tree.{sizeOf}
 use Rattle.facts.proofs.Enlisted.{inv-start}

@@ -12,7 +12,7 @@ use lib.ListN.{length}
 use Rattle.plain.proofs.Entries.{upd-other, upd-same}
 use Rattle.plain.proofs.Folds.{flatMap-append}
 use Rattle.plain.proofs.Logic.{clash, either}
-use Rattle.plain.proofs.Members.{keep-same, kept-passes, kept-was, member-append, member-flatMap, member-here, member-keep, member-last, member-left, member-snoc, member-there, not-in, not-kept}
+use Rattle.plain.proofs.Members.{keep-same, kept-passes, kept-was, member-append, member-flatMap, member-keep, member-last, member-left, member-snoc, not-in, not-kept}
 use Rattle.plain.proofs.Sums.{total-members}
 use Rattle.plain.specs.Lists.{consIf, member}
 use Rattle.plain.specs.Members.{In}
@@ -22,7 +22,6 @@ use Rattle.cells.specs.Layout.{ELEN, NV, W, WANT}
 use Rattle.cells.specs.View.{rd}
 use Rattle.packed.proofs.Spaces.{space-renamed}
 use Rattle.packed.specs.Places.{Space}
-use Rattle.drawn.specs.Buckets.{Chain}
 use Rattle.trimming.specs.Model.{Trimming}
 use Rattle.trimming.proofs.Done.{Done, alike, gone, kept, keyed, listed, mass, size}
 use Rattle.trimming.proofs.Dropping.{goes, stays}
@@ -45,12 +44,6 @@ listsAfter n me flag aggressive X E U s js j = cond (member j js) (listed n me f
 -- what holds of row i and of the rows before it
 pub each : (i : ℕ) (new : List ℕ) (P : ℕ → Type 0) → P i → ((x : ℕ) → x ≢ i → In x new → P x) → (x : ℕ) → In x (new ++ (i ∷ [])) → P x
 each i new P a b x y = ⊎-elim (λ e. subst⁻¹ P e a) (λ ne. b x ne (sym (member-snoc x i new ne) ∙ y)) (same? x i)
-
--- links that agree along the rows of a bucket
-pub chain-same : (n : ℕ) (f g : ℕ → ℕ) (xs : List ℕ) (x : ℕ) → ((v : ℕ) → In v xs → g v ≡ f v) → Chain n f x xs → Chain n g x xs
-chain-same n f g [] x e c = c
-chain-same n f g (y ∷ ys) x e c =
-    (c .0, c .1, chain-same n f g ys (g y) (λ v k. e v (member-there v y ys k)) (subst⁻¹ (λ (z : ℕ). Chain n f z ys) (e y (member-here y ys)) (c .2)))
 
 -- ---- the rows that keep nothing, and those of one key, with row i
 

@@ -12,7 +12,7 @@ use lib.ListN.{length}
 use Rattle.plain.proofs.Logic.{and-left}
 use Rattle.plain.proofs.Members.{kept-passes, kept-was}
 use Rattle.plain.proofs.Repeats.{distinct-keep, length-below}
-use Rattle.plain.proofs.Sums.{total-members}
+use Rattle.plain.proofs.Sums.{total-members, total-most}
 use Rattle.plain.specs.Lists.{itself, keep, member, total}
 use Rattle.plain.specs.Members.{Distinct, In}
 use Rattle.cells.specs.Layout.{NV, W, WANT}
@@ -29,7 +29,6 @@ use Rattle.facts.proofs.Stepped.{isMass}
 use Rattle.facts.specs.Invariant.{Live, Quotient, Var}
 use Rattle.trimming.specs.Step.{Ready}
 use Rattle.trimming.proofs.Done.{mass, size}
-use Rattle.trimming.proofs.GraphLists.{total-most}
 use Rattle.trimming.proofs.GraphMatch.{kept-elements, kept-variables, mass-is, row, want-is, weights1}
 use Rattle.trimming.proofs.Sifting.{keptE, keptV, numbers}
 

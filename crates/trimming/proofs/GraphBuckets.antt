@@ -9,10 +9,11 @@ use mathlib.Core.Path.{_∙_, _≡_, ap, refl, sym, subst}
 use borrow.Author.Tests.{lt-ltb}
 use lib.Dec.{eqb, ltb}
 use lib.IntN.{ℤ}
+use Rattle.plain.proofs.Folds.{keep-reverse}
 use Rattle.plain.proofs.Logic.{either}
 use Rattle.plain.proofs.Members.{keep-same, kept-was, member-reverse}
 use Rattle.plain.proofs.Parts.{keep-keep}
-use Rattle.plain.proofs.Sums.{total-append}
+use Rattle.plain.proofs.Sums.{total-append, total-rotate}
 use Rattle.plain.specs.Lists.{itself, keep, rotate, total}
 use Rattle.plain.specs.Members.{In}
 use Rattle.plain.specs.Turns.{upd}
@@ -32,7 +33,6 @@ use Rattle.facts.specs.Invariant.{Quotient}
 use Rattle.trimming.specs.Model.{Trimming, keyOf}
 use Rattle.trimming.specs.Step.{Ready}
 use Rattle.trimming.proofs.Done.{Done, alike, kept, keyed}
-use Rattle.trimming.proofs.GraphLists.{keep-reverse, total-rotate}
 use Rattle.trimming.proofs.GraphMatch.{kept-elements, kept-some, kept-variables, row, some-kept}
 
 -- for rows there are the code's key is the definition's

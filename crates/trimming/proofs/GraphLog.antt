@@ -11,7 +11,7 @@ use lib.IntN.{ℤ}
 use lib.ListN.{List·getD-append, drop, getD, length, length-append}
 use Rattle.plain.proofs.Logic.{clash, either, none-if}
 use Rattle.plain.proofs.Members.{append-either, kept-both, kept-was, member-kept, member-left, member-right, not-kept}
-use Rattle.plain.proofs.Positions.{getD-behind, member-getD}
+use Rattle.plain.proofs.Positions.{getD-behind, member-getD, drop-left, drop-right}
 use Rattle.plain.proofs.Repeats.{distinct-append, distinct-keep, length-below}
 use Rattle.plain.specs.Lists.{keep, member}
 use Rattle.plain.specs.Members.{Distinct, In}
@@ -32,7 +32,6 @@ use Rattle.facts.specs.Invariant.{Quotient}
 use Rattle.trimming.specs.Model.{Trimming}
 use Rattle.trimming.specs.Step.{Ready}
 use Rattle.trimming.proofs.Done.{Done}
-use Rattle.trimming.proofs.GraphLists.{drop-left, drop-right}
 use Rattle.trimming.proofs.GraphMatch.{kinds1, mass-is, row}
 use Rattle.trimming.proofs.GraphTrim.{parent-after, undropped}
 

@@ -10,6 +10,8 @@ use borrow.Author.Tests.{eq-eqb, eqb-true, lt-ltb, ltb-true}
 use lib.Dec.{eqb, ltb}
 use lib.IntN.{ℤ}
 use lib.ListN.{getD}
+use Rattle.plain.proofs.Repeats.{some-length}
+use Rattle.plain.proofs.Folds.{member-hits}
 use Rattle.plain.proofs.Logic.{bool-ext}
 use Rattle.plain.proofs.Members.{keep-same, member-keep, not-kept}
 use Rattle.plain.proofs.Parts.{flatMap-same}
@@ -29,7 +31,6 @@ use Rattle.facts.specs.Invariant.{Quotient, Var}
 use Rattle.trimming.specs.Step.{Ready}
 use Rattle.trimming.proofs.Done.{gone, kept, mass}
 use Rattle.trimming.proofs.Dropping.{goes, stays}
-use Rattle.trimming.proofs.GraphLists.{member-hits, some-length}
 use Rattle.trimming.proofs.Sifting.{goneE, keptE, keptV}
 
 -- ---- the graph with the passed elements marked has the same rows

@@ -4,9 +4,10 @@ use Prim.Native.Nat.{_+_, _<_, ℕ}
 use mathlib.Core.Bool.{Bool, true, false}
 use mathlib.Core.List.{List, _++_}
 use mathlib.Core.Logic.{_⊎_, inl, inr}
-use mathlib.Core.Path.{_∙_, _≡_, ap, subst, subst⁻¹, sym}
+use mathlib.Core.Path.{_∙_, _≡_, ap, subst⁻¹, sym}
 use lib.Dec.{ltb}
 use lib.IntN.{ℤ}
+use Rattle.plain.proofs.Parts.{entries-once}
 use Rattle.plain.proofs.Entries.{upd-other, upd-same}
 use Rattle.plain.proofs.Logic.{and-both}
 use Rattle.plain.specs.Lists.{member}
@@ -23,7 +24,6 @@ use Rattle.facts.proofs.Invariant.{var-elsewhere, var-inside, var-weighs}
 use Rattle.facts.specs.Invariant.{Quotient, Var}
 use Rattle.trimming.specs.Step.{Ready}
 use Rattle.trimming.proofs.GraphBounds.{light}
-use Rattle.trimming.proofs.GraphLists.{entries-once}
 use Rattle.trimming.proofs.GraphMatch.{elements1, kept-elements, kept-variables, kinds1, orphan1, row, variables1, weights1}
 use Rattle.trimming.proofs.Rowwise.{Fine}
 

@@ -1,6 +1,6 @@
 -- The lists that step 4 leaves are those of the trimmed graph.
 -- Assumes nothing.
-use Prim.Native.Nat.{_+_, _<_, _≤_, ℕ}
+use Prim.Native.Nat.{_<_, _≤_, ℕ}
 use native.Mathlib.Omega.{arith}
 use mathlib.Core.Bool.{Bool, true, false, cond, not, _&&_}
 use mathlib.Core.List.{List, [], _++_}
@@ -17,7 +17,6 @@ use Rattle.plain.specs.Turns.{upd}
 use Rattle.cells.proofs.Slices.{same?, split}
 use Rattle.definition.specs.Pivot.{collected, passed}
 use Rattle.definition.specs.State.{Graph, State, elementsOf, hasWeight, live, variablesOf, weight}
-use Rattle.definition.specs.State as state
 use Rattle.drawn.specs.Drawn.{listOf}
 use Rattle.facts.proofs.Collected.{collected-apart}
 use Rattle.facts.proofs.Rows.{still-elements, still-variables, still-weight}

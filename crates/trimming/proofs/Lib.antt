@@ -15,7 +15,6 @@ pub mod Due
 pub mod Staying
 pub mod Leaving
 pub mod Carried
-pub mod GraphLists
 pub mod GraphMatch
 pub mod GraphBounds
 pub mod GraphReady

@@ -20,10 +20,11 @@ use Rattle.cells.specs.Layout.{DEGREE, ELEN, HHEAD, HKEY, HNEXT, LEN, MERGES, N
 use Rattle.cells.specs.Links.{named, parent}
 use Rattle.cells.specs.View.{rd}
 use Rattle.packed.specs.Places.{Space}
+use Rattle.drawn.proofs.Buckets.{chain-same}
 use Rattle.drawn.specs.Buckets.{Chain}
 use Rattle.trimming.specs.Model.{Trimming, keyOf, updated}
 use Rattle.trimming.proofs.Done.{Done, alike, gone, kept, keyed, listed, mass, size}
-use Rattle.trimming.proofs.Due.{Due, alike-stays, apart, chain-same, each, elen-now, gone-more, gone-same, held, listsAfter, marks-more, mass-stays, own-place, safe-now, same-es, same-size, same-vs, space-more}
+use Rattle.trimming.proofs.Due.{Due, alike-stays, apart, each, elen-now, gone-more, gone-same, held, listsAfter, marks-more, mass-stays, own-place, safe-now, same-es, same-size, same-vs, space-more}
 use Rattle.trimming.proofs.Freeing.{snoc-out, without}
 use Rattle.trimming.proofs.Refinement.{refined-stays}
 use Rattle.trimming.proofs.Relisting.{Stayed}
