@@ -24,7 +24,7 @@ use Rattle.cells.specs.View.{Room}
 use Rattle.ordering.specs.Course.{Course}
 use Rattle.ordering.specs.Left.{lent, left}
 use Rattle.ordering.proofs.Leaving.{accepted-left, jumbled-is}
-use Rattle.ordering.proofs.Theorem.{Eliminates, course-outputs, course-statistics}
+use Rattle.ordering.proofs.Theorem.{course-outputs, course-statistics}
 
 -- the part of the lists that is worked in
 pub part-length : (l : List ℤ) (k : ℕ) → k ≡ min (length l) (2 ^ 61) → length (take (k - 0) l) ≡ min (length l) (2 ^ 61)
@@ -46,7 +46,7 @@ module _ (n : ℤ) (a b : List ℤ) (x : Settings) (p i l s : List ℤ) (answer 
       let z = problemOf (lent n a b x p i l s) in
       (record { room = omega (arith, scratch-room z ok) }, few-columns z ok, checked z ok .multiplier)
 
-  pub all-left : Eliminates → (part : List ℤ) (jumbled : Bool) (p′ i′ l′ s′ : List ℤ) (r : Statistics)
+  pub all-left : (part : List ℤ) (jumbled : Bool) (p′ i′ l′ s′ : List ℤ) (r : Statistics)
       → length part ≡ min (length l) (2 ^ 61)
       → jumbled ≡ eqb (numberOf (answerMeant answer)) 1
       → Course (natAbs n) a b x jumbled part s p i p′ i′ r
@@ -54,8 +54,8 @@ module _ (n : ℤ) (a b : List ℤ) (x : Settings) (p i l s : List ℤ) (answer 
       → s′ ≡ replicate (length s) (pos 0)
       → left (record { answer = answer; statistics = r }) p′ i′ l′ s′ ≡ after (lent n a b x p i l s)
   unfolding problemOf
-  all-left eliminated part jumbled p′ i′ l′ s′ r size told c cleared blank =
+  all-left part jumbled p′ i′ l′ s′ r size told c cleared blank =
       let tidy = told ∙ jumbled-is (lent n a b x p i l s) answer ok is in
-      let outputs = course-outputs eliminated n a b x p i l s ok part size jumbled tidy p′ i′ r c in
-      let counts = course-statistics eliminated n a b x p i l s ok part size jumbled tidy p′ i′ r c in
+      let outputs = course-outputs n a b x p i l s ok part size jumbled tidy p′ i′ r c in
+      let counts = course-statistics n a b x p i l s ok part size jumbled tidy p′ i′ r c in
       rw (cleared, blank) (accepted-left (lent n a b x p i l s) answer r p′ i′ ok is counts (outputs .0) (outputs .1))

@@ -1,6 +1,6 @@
 -- Of an accepted problem the course of an ordering leaves what the definition says: both outputs, and the statistics.
 -- Assumes nothing.
-use Prim.Native.Nat.{ℕ, _+_, _*_, _≤_, _<_, _^_, min}
+use Prim.Native.Nat.{ℕ, _+_, _*_, _≤_, _^_, min}
 use native.Mathlib.Omega.{arith}
 use mathlib.Core.Path.{_≡_, sym, ap, _∙_}
 use mathlib.Core.Bool.{Bool, cond}
@@ -24,13 +24,10 @@ use Rattle.numbers.specs.Meaning.{statisticsMeant}
 use Rattle.numbers.specs.declared.Settings.{Settings}
 use Rattle.numbers.specs.declared.Statistics.{Statistics}
 use Rattle.checks.specs.Given.{patternGiven, problemGiven}
-use Rattle.cells.specs.View.{Room}
 use Rattle.pattern.proofs.Taking.{taken-rep, taken-long, taken-wide}
-use Rattle.pattern.specs.Lists.{Packed}
 use Rattle.pattern.specs.Model.{tidied, built, builtFree}
-use Rattle.elimination.specs.declared.Eliminated.{Eliminated}
+use Rattle.elimination.proofs.Finished.{eliminated}
 use Rattle.elimination.specs.Result.{Result}
-use Rattle.elimination.specs.Runs.{Whole}
 use Rattle.tree.proofs.Finished.{accepted-outputs}
 use Rattle.ordering.specs.Course.{Course}
 use Rattle.ordering.proofs.Cut.{cut, cut-room, cut-accepted, cut-count}
@@ -59,12 +56,7 @@ module _ (p : Problem) (ok : Accepted p) (none : columnCount (p .pattern) ≡ 0)
 
 -- ---- the course
 
-abbrev pub Eliminates : Type 0
-Eliminates = (p : Problem) → Accepted p → (l s : List ℤ) (free : ℕ) → Room (columnCount (p .pattern)) s → Packed (columnCount (p .pattern)) (graphOf (p .pattern)) l s free
-    → length l ≡ p .listsSize → length l < 2 ^ 62 → (l′ s′ : List ℤ) (r : Eliminated)
-    → Whole (columnCount (p .pattern)) (limitOf (p .pattern) (ruleFor p)) free (p .aggressive) l s l′ s′ r → Result p l l′ s′ r
-
-module _ (eliminated : Eliminates) (n : ℤ) (a b : List ℤ) (x : Settings) (p i l s : List ℤ) where
+module _ (n : ℤ) (a b : List ℤ) (x : Settings) (p i l s : List ℤ) where
   abbrev problem : Problem
   problem = problemGiven (patternGiven n a b) (x .multiplier) (x .aggressive) (length p) (length i) (length l) (length s)
 

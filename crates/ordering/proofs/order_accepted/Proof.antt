@@ -60,7 +60,7 @@ returns c =
     let size = c .before .before .before .before .before .before .before .before .before .before .before .before .before .before .before .before .part-size in
     let clear = c .before .before .before .before .clear in
     let clear2 = c .before .clear2 in
-    all-left _ _ _ _ _ _ _ _ (s .args .a) (s .pre .0) (s .pre .1) ? _ _ _ _ _ _ _
+    all-left _ _ _ _ _ _ _ _ (s .args .a) (s .pre .0) (s .pre .1) _ _ _ _ _ _ _
     (part-length (s .args .lists .now) (size .result) (size .ensures))
     (c .before .before .before .before .before .before .before .before .before .before .before .before .before .before .before .is-jumbled .ensures)
     (rw (read w32 (s .args .n) (s .fits .n .sfits)) at (c .before .before .before .before .before .before .before .before .before .before .order-pattern .ensures))
