@@ -1,0 +1,5 @@
+-- The laws behind the proofs of `text`.
+pub mod Steps
+pub mod Signs
+pub mod Walks
+pub mod Counts
