@@ -1,0 +1,2 @@
+-- The laws behind the proofs of `order_text`.
+pub mod Rooms

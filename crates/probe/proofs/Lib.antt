@@ -1,0 +1,2 @@
+-- The laws behind the proofs of `probe`.
+pub mod Cells
