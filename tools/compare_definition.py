@@ -12,7 +12,6 @@ The cases are the same at every run.
 import argparse
 import collections
 import pathlib
-import random
 import re
 import shutil
 import subprocess
@@ -21,6 +20,8 @@ import tempfile
 import time
 
 TOOLS = pathlib.Path(__file__).resolve().parent
+sys.path.insert(0, str(TOOLS / "shared"))
+from draw import Draw  # noqa: E402
 CRATES = TOOLS.parent / "crates"
 EMPTY = -1
 
@@ -31,29 +32,6 @@ Problem = collections.namedtuple("Problem", "kind columns multiplier aggressive 
 Listed = collections.namedtuple("Listed", "kind columns")
 # a case as it is printed, and in antt
 Entry = collections.namedtuple("Entry", "kind n label text")
-
-
-class Draw:
-    """Uses `random()` alone: the one method whose numbers every Python repeats."""
-
-    def __init__(self, seed):
-        self.random = random.Random(seed).random
-
-    def between(self, a, b):
-        return a + int(self.random() * (b - a + 1))
-
-    def chance(self, p):
-        return self.random() < p
-
-    def one_of(self, xs):
-        return xs[self.between(0, len(xs) - 1)]
-
-    def shuffled(self, xs):
-        xs = list(xs)
-        for k in range(len(xs) - 1, 0, -1):
-            other = self.between(0, k)
-            xs[k], xs[other] = xs[other], xs[k]
-        return xs
 
 
 def packed(columns):

@@ -12,11 +12,12 @@ The cases are the same at every run.
 import collections
 import fractions
 import pathlib
-import random
 import subprocess
 import sys
 
 TOOLS = pathlib.Path(__file__).resolve().parent.parent
+sys.path.insert(0, str(TOOLS / "shared"))
+from draw import Draw  # noqa: E402
 CRATE = TOOLS.parent / "crates" / "replay"
 
 # as in crates/replay/src/main.rt
@@ -129,22 +130,6 @@ def found():
             if name == "hard.txt":
                 yield c._replace(aggressive=1 - c.aggressive)
                 yield c._replace(lists=c.lists + 1)
-
-
-class Draw:
-    """Uses `random()` alone: the one method whose numbers every Python repeats."""
-
-    def __init__(self, seed):
-        self.random = random.Random(seed).random
-
-    def between(self, a, b):
-        return a + int(self.random() * (b - a + 1))
-
-    def chance(self, p):
-        return self.random() < p
-
-    def one_of(self, xs):
-        return xs[self.between(0, len(xs) - 1)]
 
 
 def drawn_edges(n, k, draw):
