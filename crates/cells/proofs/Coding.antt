@@ -19,7 +19,7 @@ use Rattle.cells.specs.View.{place, Room}
 use Rattle.cells.specs.Links.{flipped, coded, decoded, named, linked, parent, hang}
 use Rattle.cells.proofs.Words.{back}
 use Rattle.cells.proofs.Fields.{place-hot}
-use Rattle.cells.proofs.Parents.{named-some, named-none, parent-in, parent-null, hang-in, hang-null}
+use Rattle.cells.proofs.Parents.{named-some, named-none, parent-in, parent-null, hang-in, hang-null, room-hang}
 
 -- as a machine's word reads it
 abbrev word : ℤ → ℤ
@@ -118,5 +118,5 @@ module _ (n : ℕ) (s : List ℤ) (i : ℕ) where
   pub hang-none : (p : Option ℕ) → n ≤ i → s ≡ hang n s i p
   hang-none p h = sym (hang-null n s i p h)
 
-pub room-kept : (n : ℕ) (s : List ℤ) (i : ℕ) (r : ℤ) → Room n s → Room n (set s (8 * i) (word r))
-room-kept n s i r h = record { room = omega (arith, h, length-set s (8 * i) (word r)) }
+pub room-kept : (n : ℕ) (s : List ℤ) (i : ℕ) (p : Option ℕ) (t : List ℤ) → t ≡ hang n s i p → Room n s → Room n t
+room-kept n s i p t e h = rw e (room-hang n s i p h)

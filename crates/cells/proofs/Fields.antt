@@ -11,8 +11,8 @@ use borrow.Author.Tests.{ltb-true, leb-true, eqb-true, lt-ltb, le-ltb, le-leb, l
 use lib.Dec.{ltb, leb, eqb}
 use lib.IntN.{ℤ}
 use lib.ListN.{length}
-use Rattle.cells.specs.View.{at, wr, place, within, rd, up, Room, spare}
-use Rattle.cells.proofs.Slices.{split, same?, at-wr-same, at-wr-other, length-wr, wr-wr, wr-comm}
+use Rattle.cells.specs.View.{at, wr, place, within, rd, up, negative, Room, spare}
+use Rattle.cells.proofs.Slices.{split, same?, calm-wr, at-wr-same, at-wr-other, length-wr, wr-wr, wr-comm}
 
 -- ---- where a field's cells are
 
@@ -170,8 +170,12 @@ module _ (n f : ℕ) (s : List ℤ) (i v : ℕ) where
   pub length-up : length (up n f s i v) ≡ length s
   length-up = up-len (within n f i) refl
 
+  up-calm : (w : Bool) → within n f i ≡ w → (q : ℕ) → negative s q ≡ false → negative (up n f s i v) q ≡ false
+  up-calm true h q k = rw (up-in h) (calm-wr s (place n f i) v q k)
+  up-calm false h q k = rw (up-out h) k
+
   pub room-up : Room n s → Room n (up n f s i v)
-  room-up h = record { room = omega (arith, h, length-up) }
+  room-up h = record { room = omega (arith, h .room, length-up); calm = λ g j a w. up-calm (within n f i) refl (place n g j) (h .calm g j a w) }
 
 pub rd-in : (n f : ℕ) (s : List ℤ) (i : ℕ) → within n f i ≡ true → rd n f s i ≡ at s (place n f i)
 unfolding rd
@@ -195,10 +199,13 @@ module _ (n f : ℕ) (s : List ℤ) (i v : ℕ) where
   stored : within n f i ≡ true → place n f i < length s → rd n f (up n f s i v) i ≡ v
   stored w h = rw (rd-in n f (up n f s i v) i w, up-in n f s i v w) (at-wr-same s (place n f i) v h)
 
-  pub rd-up-same : f < 15 → Room n s → i < n → rd n f (up n f s i v) i ≡ v
-  rd-up-same hf hr hi =
+  pub rd-up-long : f < 15 → 16 * n + 16 ≤ length s → i < n → rd n f (up n f s i v) i ≡ v
+  rd-up-long hf hr hi =
       let w = within-node n f i hf hi in
-      stored w (inside n f i (length s) (hr .room) (omega arith) w)
+      stored w (inside n f i (length s) hr (omega arith) w)
+
+  pub rd-up-same : f < 15 → Room n s → i < n → rd n f (up n f s i v) i ≡ v
+  rd-up-same hf hr hi = rd-up-long hf (hr .room) hi
 
   other-by : (g j : ℕ) → (f ≡ g → i ≡ j → ⊥) → (a b : Bool) → within n f i ≡ a → within n g j ≡ b
       → rd n g (up n f s i v) j ≡ rd n g s j
@@ -211,10 +218,10 @@ module _ (n f : ℕ) (s : List ℤ) (i v : ℕ) where
   pub rd-up-other : (g j : ℕ) → (f ≡ g → i ≡ j → ⊥) → rd n g (up n f s i v) j ≡ rd n g s j
   rd-up-other g j d = other-by g j d (within n f i) (within n g j) refl refl
 
-pub rd-up-column : (n : ℕ) (s : List ℤ) (i v : ℕ) → Room n s → i ≤ n → rd n 15 (up n 15 s i v) i ≡ v
+pub rd-up-column : (n : ℕ) (s : List ℤ) (i v : ℕ) → 16 * n + 16 ≤ length s → i ≤ n → rd n 15 (up n 15 s i v) i ≡ v
 rd-up-column n s i v hr hi =
     let w = within-column n i hi in
-    stored n 15 s i v w (inside n 15 i (length s) (hr .room) (omega arith) w)
+    stored n 15 s i v w (inside n 15 i (length s) hr (omega arith) w)
 
 pub rd-up-entry : (n : ℕ) (s : List ℤ) (i v : ℕ) → i < spare n s → rd n 16 (up n 16 s i v) i ≡ v
 rd-up-entry n s i v h = stored n 16 s i v (within-entry n i) (inside-entry n i s h)

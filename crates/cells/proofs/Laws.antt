@@ -2,7 +2,7 @@
 -- inequality among the variables, either way round. `simp mem` shows that a cell is as before; for a cell that was stored at,
 -- `simp (mem, room-yes n s room, lt-ltb i n hi)` shows what it holds.
 -- Assumes nothing.
-use Prim.Native.Nat.{ℕ, _+_, _*_}
+use Prim.Native.Nat.{ℕ, _+_, _*_, _≤_}
 use native.Mathlib.Nat.{le-refl}
 use mathlib.Core.Path.{_≡_, sym}
 use mathlib.Core.Logic.{_≢_}
@@ -16,8 +16,8 @@ use lib.ListN.{length}
 use Rattle.cells.specs.View.{rd, up, Room, roomy, spare}
 use Rattle.cells.specs.Links.{parent, hang}
 use Rattle.cells.proofs.Slices.{at-wr-hit, at-wr-cell, at-wr-cell′, length-wr}
-use Rattle.cells.proofs.Fields.{rd-null, up-null, rd-up-same, rd-up-other, rd-up-column, rd-up-entry, length-up}
-use Rattle.cells.proofs.Parents.{hang-null, parent-null, length-hang, parent-hang-same, parent-hang-other, rd-hang-other, rd-hang-gone, parent-up-other, parent-up-gone}
+use Rattle.cells.proofs.Fields.{rd-null, up-null, rd-up-long, rd-up-other, rd-up-column, rd-up-entry, length-up}
+use Rattle.cells.proofs.Parents.{hang-null, parent-null, length-hang, parent-hang-long, parent-hang-other, rd-hang-other, rd-hang-gone, parent-up-other, parent-up-gone}
 
 -- ---- room as a test
 
@@ -25,9 +25,9 @@ pub room-yes : (n : ℕ) (s : List ℤ) → Room n s → roomy n s ≡ true
 unfolding roomy
 room-yes n s h = le-leb (16 * n + 16) (length s) (h .room)
 
-pub room-is : (n : ℕ) (s : List ℤ) → roomy n s ≡ true → Room n s
+room-long : (n : ℕ) (s : List ℤ) → roomy n s ≡ true → 16 * n + 16 ≤ length s
 unfolding roomy
-room-is n s h = record { room = leb-true (16 * n + 16) (length s) h }
+room-long n s h = leb-true (16 * n + 16) (length s) h
 
 module _ (n f : ℕ) (s : List ℤ) (i v : ℕ) where
   pub roomy-up : roomy n (up n f s i v) ≡ roomy n s
@@ -50,10 +50,10 @@ module _ (n : ℕ) (s : List ℤ) (i : ℕ) (p : Option ℕ) where
 -- ---- a number after a number
 
 pub rd-up-hit : (n f : ℕ) (s : List ℤ) (i v : ℕ) → ltb f 15 ≡ true → roomy n s ≡ true → ltb i n ≡ true → rd n f (up n f s i v) i ≡ v
-rd-up-hit n f s i v hf hr hi = rd-up-same n f s i v (ltb-true f 15 hf) (room-is n s hr) (ltb-true i n hi)
+rd-up-hit n f s i v hf hr hi = rd-up-long n f s i v (ltb-true f 15 hf) (room-long n s hr) (ltb-true i n hi)
 
 pub column-hit : (n : ℕ) (s : List ℤ) (i v : ℕ) → roomy n s ≡ true → leb i n ≡ true → rd n 15 (up n 15 s i v) i ≡ v
-column-hit n s i v hr hi = rd-up-column n s i v (room-is n s hr) (leb-true i n hi)
+column-hit n s i v hr hi = rd-up-column n s i v (room-long n s hr) (leb-true i n hi)
 
 pub entry-hit : (n : ℕ) (s : List ℤ) (i v : ℕ) → ltb i (spare n s) ≡ true → rd n 16 (up n 16 s i v) i ≡ v
 entry-hit n s i v h = rd-up-entry n s i v (ltb-true i (spare n s) h)
@@ -92,7 +92,7 @@ module _ (n f : ℕ) (s : List ℤ) (i v j : ℕ) where
 
 module _ (n : ℕ) (s : List ℤ) (i : ℕ) (p : Option ℕ) where
   pub parent-hang-hit : roomy n s ≡ true → ltb i n ≡ true → parent n (hang n s i p) i ≡ p
-  parent-hang-hit hr hi = parent-hang-same n s i p (room-is n s hr) (ltb-true i n hi)
+  parent-hang-hit hr hi = parent-hang-long n s i p (room-long n s hr) (ltb-true i n hi)
 
   pub parent-hang-cell : (j : ℕ) → i ≢ j → parent n (hang n s i p) j ≡ parent n s j
   parent-hang-cell j d = parent-hang-other n s i p j d

@@ -10,3 +10,4 @@ pub mod Filling
 pub mod Coding
 pub mod Segments
 pub mod Whole
+pub mod Rows

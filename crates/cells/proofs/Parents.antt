@@ -1,6 +1,6 @@
 -- The laws of `parent` and `hang`: a parent is found again, and stands in nobody's way but that of the place of its own object's list.
 -- Assumes nothing.
-use Prim.Native.Nat.{ℕ, zero, suc, _-_, _<_, _≤_}
+use Prim.Native.Nat.{ℕ, zero, suc, _+_, _-_, _*_, _<_, _≤_}
 use native.Mathlib.Omega.{arith}
 use native.Mathlib.Numerals.{add-one}
 use mathlib.Core.Path.{_≡_, refl, sym, ap, _∙_}
@@ -11,9 +11,10 @@ use mathlib.Core.Option.{Option, none, some}
 use borrow.Author.Tests.{lt-ltb, le-ltb}
 use lib.IntN.{ℤ, pos, negsuc, negℤ, _-ℤ_}
 use lib.ListN.{length, getD, set, length-set, List·getD-eq-default}
+use lib.Signed.{ltZ}
 use lib.Seq.{getD-set-same, getD-set-other, set-out, set-comm, set-set}
 use Rattle.cells.specs.Layout.{PE}
-use Rattle.cells.specs.View.{nat, at, wr, place, within, rd, up, Room}
+use Rattle.cells.specs.View.{nat, at, wr, place, within, rd, up, negative, Room}
 use Rattle.cells.specs.Links.{flipped, coded, decoded, named, linked, parent, hang}
 use Rattle.cells.proofs.Slices.{split}
 use Rattle.cells.proofs.Fields.{places-differ, inside, up-in, up-out, rd-in, rd-out, rd-null}
@@ -87,13 +88,23 @@ module _ (n : ℕ) (s : List ℤ) (i : ℕ) (p : Option ℕ) where
   pub length-hang : length (hang n s i p) ≡ length s
   length-hang = length-by (split i n)
 
+  calm-by : (f j : ℕ) → 0 < f → within n f j ≡ true → negative s (place n f j) ≡ false → (i < n) ⊎ (n ≤ i) → negative (hang n s i p) (place n f j) ≡ false
+  unfolding negative
+  calm-by f j a w k (inl b) =
+      rw (hang-in n s i p b)
+      (ap (λ (z : ℤ). ltZ z (pos 0)) (getD-set-other s (place n PE i) (place n f j) (coded p) (pos 0) (places-differ n PE f i j (pe-in n i b) w (λ e _. omega arith))) ∙ k)
+  calm-by f j a w k (inr b) = rw (hang-null n s i p b) k
+
   pub room-hang : Room n s → Room n (hang n s i p)
-  room-hang h = record { room = omega (arith, h, length-hang) }
+  room-hang h = record { room = omega (arith, h .room, length-hang); calm = λ f j a w. calm-by f j a w (h .calm f j a w) (split i n) }
+
+  pub parent-hang-long : 16 * n + 16 ≤ length s → i < n → parent n (hang n s i p) i ≡ p
+  parent-hang-long r h =
+      rw (parent-in n (hang n s i p) i h, hang-in n s i p h)
+      (ap decoded (getD-set-same s (place n PE i) (coded p) (pos 0) (inside n PE i (length s) r (omega arith) (pe-in n i h))) ∙ decoded-coded p)
 
   pub parent-hang-same : Room n s → i < n → parent n (hang n s i p) i ≡ p
-  parent-hang-same r h =
-      rw (parent-in n (hang n s i p) i h, hang-in n s i p h)
-      (ap decoded (getD-set-same s (place n PE i) (coded p) (pos 0) (inside n PE i (length s) (r .room) (omega arith) (pe-in n i h))) ∙ decoded-coded p)
+  parent-hang-same r h = parent-hang-long (r .room) h
 
   parent-by : (j : ℕ) → i ≢ j → (i < n) ⊎ (n ≤ i) → (j < n) ⊎ (n ≤ j) → parent n (hang n s i p) j ≡ parent n s j
   parent-by j d (inr a) b = rw (hang-null n s i p a)

@@ -3,16 +3,17 @@
 use Prim.Native.Nat.{ℕ, _+_, _-_, _<_, _≤_, _^_}
 use native.Mathlib.Omega.{arith}
 use native.Mathlib.Decide.{decLt, ℕ-discrete}
-use mathlib.Core.Path.{_≡_, sym, ap}
+use mathlib.Core.Path.{_≡_, sym, ap, _∙_}
 use mathlib.Core.Logic.{_≢_, _⊎_, inl, inr}
-use mathlib.Core.Bool.{true}
+use mathlib.Core.Bool.{true, false}
 use mathlib.Core.List.{List}
 use borrow.Author.Tests.{ltb-true, lt-ltb, le-ltb}
 use lib.Dec.{ltb}
 use lib.IntN.{ℤ, pos}
-use lib.ListN.{length, length-set, List·getD-eq-default}
+use lib.Signed.{ltZ}
+use lib.ListN.{length, getD, length-set, List·getD-eq-default}
 use lib.Seq.{getD-set-same, getD-set-other, set-out, set-comm, set-set}
-use Rattle.cells.specs.View.{nat, at, wr, plus}
+use Rattle.cells.specs.View.{nat, at, wr, negative, plus}
 
 -- ---- case splits for laws
 
@@ -46,6 +47,22 @@ module _ (l : List ℤ) (i v : ℕ) where
 pub at-out : (l : List ℤ) (i : ℕ) → length l ≤ i → at l i ≡ 0
 unfolding at
 at-out l i h = ap nat (List·getD-eq-default l (pos 0) h)
+
+-- ---- signs
+
+not-below : (v : ℕ) → ltZ (pos v) (pos 0) ≡ false
+not-below v = le-ltb v 0 (omega arith)
+
+module _ (l : List ℤ) (i v j : ℕ) (k : negative l j ≡ false) where
+  calm-by : (i < length l) ⊎ (length l ≤ i) → (j ≡ i) ⊎ (j ≢ i) → negative (wr l i v) j ≡ false
+  unfolding wr negative
+  calm-by (inl a) (inl e) = rw e (ap (λ (z : ℤ). ltZ z (pos 0)) (getD-set-same l i (pos v) (pos 0) a) ∙ not-below v)
+  calm-by (inr a) (inl e) = ap (λ (m : List ℤ). ltZ (getD m j (pos 0)) (pos 0)) (set-out l i (pos v) a) ∙ k
+  calm-by a (inr d) = ap (λ (z : ℤ). ltZ z (pos 0)) (getD-set-other l i j (pos v) (pos 0) d) ∙ k
+
+  -- a number that is stored makes nothing negative
+  pub calm-wr : negative (wr l i v) j ≡ false
+  calm-wr = calm-by (split i (length l)) (same? j i)
 
 -- ---- two stores
 

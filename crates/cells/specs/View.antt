@@ -2,9 +2,9 @@
 -- memory with v there; of the scratch, `rd n f s i` is the number of field f at i and `up n f s i v` the memory with v there. All are total: a read outside
 -- gives 0, a store outside does nothing. All are shut: whoever reasons about memory uses the laws of `proofs/`, and never the list or the layout.
 -- Assumes nothing.
-use Prim.Native.Nat.{ℕ, _+_, _-_, _*_, _^_, _≤_}
+use Prim.Native.Nat.{ℕ, _+_, _-_, _*_, _^_, _<_, _≤_}
 use mathlib.Core.Path.{_≡_}
-use mathlib.Core.Bool.{Bool, cond}
+use mathlib.Core.Bool.{Bool, true, false, cond}
 use mathlib.Core.List.{List}
 use lib.Dec.{ltb, leb, eqb}
 use lib.IntN.{ℤ, pos, negsuc}
@@ -24,6 +24,10 @@ at l i = nat (getD l i (pos 0))
 unfoldable pub wr : List ℤ → ℕ → ℕ → List ℤ
 wr l i v = set l i (pos v)
 
+-- cell i is below 0
+unfoldable pub negative : List ℤ → ℕ → Bool
+negative l i = ltZ (getD l i (pos 0)) (pos 0)
+
 -- ---- the scratch: `Layout` names its fields and says what each holds in which phase
 
 -- the cell of field f at i
@@ -42,11 +46,12 @@ rd n f s i = cond (within n f i) (at s (place n f i)) 0
 unfoldable pub up : ℕ → ℕ → List ℤ → ℕ → ℕ → List ℤ
 up n f s i v = cond (within n f i) (wr s (place n f i) v) s
 
--- there is room for all fields but the rows of the pattern
+-- there is room for all fields but the rows of the pattern, and nothing negative in them but parents (`Links`), which stand where the place of a list stood
 pub record Room (n : ℕ) (s : List ℤ) : Type 0 where
   pub room : 16 * n + 16 ≤ length s
+  pub calm : (f i : ℕ) → 0 < f → within n f i ≡ true → negative s (place n f i) ≡ false
 
--- the same as a test
+-- that there is room, as a test
 unfoldable pub roomy : ℕ → List ℤ → Bool
 roomy n s = leb (16 * n + 16) (length s)
 
@@ -61,10 +66,6 @@ unfoldable pub plus : ℕ → ℕ → ℕ
 plus a b = cond (ltb (a + b) (2 ^ 63)) (a + b) (2 ^ 63 - 1)
 
 -- ---- where the sign counts: the pattern as it is lent, and the outputs
-
--- cell i is below 0
-unfoldable pub negative : List ℤ → ℕ → Bool
-negative l i = ltZ (getD l i (pos 0)) (pos 0)
 
 -- cell i is the number v, and not a negative one
 pub record Holds (l : List ℤ) (i v : ℕ) : Type 0 where

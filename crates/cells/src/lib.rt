@@ -1,11 +1,13 @@
 // The memory of the ordering: cells of lent slices, read and written as unsigned numbers. The Rust's vectors are fields of the one scratch slice; where each
-// lies is known here alone. A read outside gives 0 and a store outside does nothing, so no caller has to show an index. The null link is n.
+// lies is known here alone. Where a caller shows no index, a read outside gives 0 and a store outside does nothing. The null link is n.
 ghost use mathlib.Core.Path.{_≡_};
+ghost use mathlib.Core.Bool.{false};
 ghost use Prim.Native.Nat.{_-_, _<_, _≤_, _^_};
 ghost use lib.ListN.{length, replicate};
 ghost use lib.IntN.{pos};
 ghost use lib.Signed.{mag};
 ghost use Rattle.cells.specs.View.{at, wr, rd, up, Room, plus, negative};
+ghost use Rattle.cells.specs.Rows.{Rows, Swept, rowOf, clipped};
 ghost use Rattle.cells.specs.Links.{flipped, coded, decoded, named, linked, parent, hang};
 
 // No parent, as the Rust has it.
@@ -68,6 +70,15 @@ fn load(l: &[i64], i: usize) -> usize
     if x < 0 { 0 } else { x as usize }
 }
 
+// The number in cell `i`, which is there and not negative.
+fn fetch(l: &[i64], i: usize) -> usize
+    requires { ⌜ (i < length (now l)) × (negative (now l) i ≡ false) ⌝ }
+    ensures { λ r. ⌜ (r ≡ at (now (l .entry)) i) × (r < 2 ^ 63) ⌝ }
+{
+    let x = l[i];
+    x as usize
+}
+
 // Cell `i`, which is there, becomes `v`.
 fn store(l: &mut [i64], i: usize, v: usize)
     requires { ⌜ (i < length (now l)) × (v < 2 ^ 63) ⌝ }
@@ -93,14 +104,6 @@ pub fn poke(l: &mut [i64], i: usize, v: usize)
     }
 }
 
-// Cell `e` becomes what cell `p` is.
-pub fn copy_cell(l: &mut [i64], p: usize, e: usize)
-    ensures { λ _. ⌜ now (l .exit) ≡ wr (now (l .entry)) e (at (now (l .entry)) p) ⌝ }
-{
-    let x = peek(l, p);
-    poke(l, e, x);
-}
-
 // Every cell 0.
 pub fn clear(l: &mut [i64])
     ensures { λ _. ⌜ now (l .exit) ≡ replicate (length (now (l .entry))) (pos 0) ⌝ }
@@ -112,14 +115,110 @@ pub fn clear(l: &mut [i64])
     }
 }
 
+// ---- rows in the list space
+
+// The row in cell `q`.
+pub fn row(l: &[i64], n: usize, q: usize) -> usize
+    requires { ⌜ Rows n (now l) × (q < length (now l)) ⌝ }
+    ensures { λ r. ⌜ (r ≡ at (now (l .entry)) q) × (r < n) × (r < 2 ^ 63) ⌝ }
+{
+    fetch(l, q)
+}
+
+// Cell `q` becomes row `v`.
+pub fn put_row(l: &mut [i64], n: usize, q: usize, v: usize)
+    requires { ⌜ Rows n (now l) × (q < length (now l)) × (v < n) × (v < 2 ^ 63) ⌝ }
+    ensures { λ _. ⌜ (now (l .exit) ≡ wr (now (l .entry)) q v) × Rows n (now (l .exit)) ⌝ }
+{
+    store(l, q, v);
+}
+
+// The same; nothing is done where there is no such cell.
+pub fn poke_row(l: &mut [i64], n: usize, q: usize, v: usize)
+    requires { ⌜ Rows n (now l) × (v < n) × (v < 2 ^ 63) ⌝ }
+    ensures { λ _. ⌜ (now (l .exit) ≡ wr (now (l .entry)) q v) × Rows n (now (l .exit)) ⌝ }
+{
+    if q < l.len() {
+        store(l, q, v);
+    }
+}
+
+// Cell `e` becomes what cell `p` is.
+pub fn copy_row(l: &mut [i64], n: usize, p: usize, e: usize)
+    requires { ⌜ Rows n (now l) ⌝ }
+    ensures { λ _. ⌜ (now (l .exit) ≡ wr (now (l .entry)) e (at (now (l .entry)) p)) × Rows n (now (l .exit)) ⌝ }
+{
+    let x = peek(l, p);
+    poke(l, e, x);
+}
+
+// Cell `e` becomes what cell `p` is.
+pub fn copy_cell(l: &mut [i64], p: usize, e: usize)
+    ensures { λ _. ⌜ now (l .exit) ≡ wr (now (l .entry)) e (at (now (l .entry)) p) ⌝ }
+{
+    let x = peek(l, p);
+    poke(l, e, x);
+}
+
+// How many of the `k` cells from `p` on are there, of `size` in all: a loop over them asks once.
+pub fn clip(size: usize, p: usize, k: usize) -> usize
+    ensures { λ r. ⌜ (r ≡ clipped size p k) × (r ≤ k) × (r ≤ size - p) ⌝ }
+{
+    let rest = less(size, p);
+    if k < rest { k } else { rest }
+}
+
+// Cell `q` becomes row 0, if it holds no row.
+fn sweep_one(l: &mut [i64], n: usize, q: usize)
+    requires { ⌜ q < length (now l) ⌝ }
+    ensures { λ _. ⌜ now (l .exit) ≡ wr (now (l .entry)) q (rowOf n (at (now (l .entry)) q)) ⌝ }
+{
+    let x = load(l, q);
+    if x < n {
+        store(l, q, x);
+    } else {
+        store(l, q, 0);
+    }
+}
+
+// Every cell that holds no row becomes row 0.
+pub fn sweep(l: &mut [i64], n: usize)
+    requires { ⌜ 0 < n ⌝ }
+    ensures { λ _. ⌜ Swept n (now (l .entry)) (now (l .exit)) ⌝ }
+{
+    for q in 0..l.len() {
+        sweep_one(l, n, q);
+    }
+}
+
 // ---- a field of the scratch
+
+// Field `f` of node `i`. Of all fields PE alone may have a negative cell.
+pub fn get(s: &[i64], n: usize, f: usize, i: usize) -> usize
+    requires { ⌜ (f < 8) × (i < n) × Room n (now s) ⌝ }
+    ensures { λ r. ⌜ (r ≡ rd n f (now (s .entry)) i) × (r < 2 ^ 63) ⌝ }
+{
+    if 0 < f {
+        fetch(s, 8 * i + f)
+    } else {
+        load(s, 8 * i + f)
+    }
+}
+
+// Field `f` of node `i` becomes `v`.
+pub fn set(s: &mut [i64], n: usize, f: usize, i: usize, v: usize)
+    requires { ⌜ (f < 8) × (i < n) × Room n (now s) × (v < 2 ^ 63) ⌝ }
+    ensures { λ _. ⌜ (now (s .exit) ≡ up n f (now (s .entry)) i v) × Room n (now (s .exit)) ⌝ }
+{
+    store(s, 8 * i + f, v);
+}
 
 // Field `f` of node `i`; 0 where `i` is not below `n`.
 pub fn rd(s: &[i64], n: usize, f: usize, i: usize) -> usize
     requires { ⌜ (f < 8) × Room n (now s) ⌝ }
     ensures { λ r. ⌜ (r ≡ rd n f (now (s .entry)) i) × (r < 2 ^ 63) ⌝ }
 {
-    if i < n { load(s, 8 * i + f) } else { 0 }
+    if i < n { get(s, n, f, i) } else { 0 }
 }
 
 // Field `f` of node `i` becomes `v`; nothing is done where `i` is not below `n`.
@@ -128,8 +227,24 @@ pub fn up(s: &mut [i64], n: usize, f: usize, i: usize, v: usize)
     ensures { λ _. ⌜ (now (s .exit) ≡ up n f (now (s .entry)) i v) × Room n (now (s .exit)) ⌝ }
 {
     if i < n {
-        store(s, 8 * i + f, v);
+        set(s, n, f, i, v);
     }
+}
+
+// Entry `i` of table `t`.
+pub fn look(s: &[i64], n: usize, t: usize, i: usize) -> usize
+    requires { ⌜ (8 ≤ t) × (t < 15) × (i < n) × Room n (now s) ⌝ }
+    ensures { λ r. ⌜ (r ≡ rd n t (now (s .entry)) i) × (r < 2 ^ 63) ⌝ }
+{
+    fetch(s, t * n + i)
+}
+
+// Entry `i` of table `t` becomes `v`.
+pub fn note(s: &mut [i64], n: usize, t: usize, i: usize, v: usize)
+    requires { ⌜ (8 ≤ t) × (t < 15) × (i < n) × Room n (now s) × (v < 2 ^ 63) ⌝ }
+    ensures { λ _. ⌜ (now (s .exit) ≡ up n t (now (s .entry)) i v) × Room n (now (s .exit)) ⌝ }
+{
+    store(s, t * n + i, v);
 }
 
 // Entry `i` of table `t`; 0 where `i` is not below `n`.
@@ -137,7 +252,7 @@ pub fn tab(s: &[i64], n: usize, t: usize, i: usize) -> usize
     requires { ⌜ (8 ≤ t) × (t < 15) × Room n (now s) ⌝ }
     ensures { λ r. ⌜ (r ≡ rd n t (now (s .entry)) i) × (r < 2 ^ 63) ⌝ }
 {
-    if i < n { load(s, t * n + i) } else { 0 }
+    if i < n { look(s, n, t, i) } else { 0 }
 }
 
 // Entry `i` of table `t` becomes `v`; nothing is done where `i` is not below `n`.
@@ -146,7 +261,7 @@ pub fn put(s: &mut [i64], n: usize, t: usize, i: usize, v: usize)
     ensures { λ _. ⌜ (now (s .exit) ≡ up n t (now (s .entry)) i v) × Room n (now (s .exit)) ⌝ }
 {
     if i < n {
-        store(s, t * n + i, v);
+        note(s, n, t, i, v);
     }
 }
 
@@ -157,7 +272,7 @@ pub fn column(s: &[i64], n: usize, k: usize) -> usize
     requires { ⌜ Room n (now s) ⌝ }
     ensures { λ r. ⌜ (r ≡ rd n 15 (now (s .entry)) k) × (r < 2 ^ 63) ⌝ }
 {
-    if k <= n { load(s, 15 * n + k) } else { 0 }
+    if k <= n { fetch(s, 15 * n + k) } else { 0 }
 }
 
 // The pointer of column `k` becomes `v`; nothing is done where `k` is above `n`.
@@ -177,7 +292,7 @@ pub fn entry(s: &[i64], n: usize, p: usize) -> usize
 {
     let from = 16 * n + 16;
     if p < s.len() - from {
-        load(s, from + p)
+        fetch(s, from + p)
     } else {
         0
     }

@@ -1,5 +1,5 @@
 -- `cells::put_column` meets its contract. Assumes nothing.
-use Rattle.cells.proofs.Steps.{column-store, column-nowhere, still-room}
+use Rattle.cells.proofs.Steps.{column-stored, column-nowhere}
 use borrow.Author.Needs.{needs}
 use Rattle.cells.proofs.put_column.Statement.{statement}
 use Rattle.cells.proofs.put_column.Tie as tie
@@ -17,7 +17,7 @@ same-length : tie.Need-same-length
 same-length c = search needs
 
 returns : tie.Need-returns
-returns c = (column-store _ _ _ _ _ (c .before .store .ensures) (c .before .before .before .if1 .taken), still-room _ _ _ (c .before .store .kept .0) (c .before .before .before .before .pre .0))
+returns c = column-stored _ _ _ _ (c .before .before .before .before .pre .0) _ (c .before .store .ensures) (c .before .before .before .if1 .taken)
 
 returns-2 : tie.Need-returns-2
 returns-2 c = (column-nowhere _ _ _ _ (c .if1 .left), c .before .pre .0)

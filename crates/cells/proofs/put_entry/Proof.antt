@@ -1,5 +1,5 @@
 -- `cells::put_entry` meets its contract. Assumes nothing.
-use Rattle.cells.proofs.Steps.{entry-store, entry-nowhere, still-room}
+use Rattle.cells.proofs.Steps.{entry-stored, entry-nowhere}
 use borrow.Author.Needs.{needs}
 use Rattle.cells.proofs.put_entry.Statement.{statement}
 use Rattle.cells.proofs.put_entry.Tie as tie
@@ -23,7 +23,7 @@ same-length : tie.Need-same-length
 same-length c = search needs
 
 returns : tie.Need-returns
-returns c = (entry-store _ _ _ _ _ (c .before .store .ensures), still-room _ _ _ (c .before .store .kept .0) (c .before .before .before .before .pre .0))
+returns c = entry-stored _ _ _ _ (c .before .before .before .before .pre .0) _ (c .before .store .ensures)
 
 returns-2 : tie.Need-returns-2
 returns-2 c = (entry-nowhere _ _ _ _ (c .before .pre .0 .room) (c .if1 .left), c .before .pre .0)

@@ -22,7 +22,8 @@ same-length c = search needs
 returns : tie.Need-returns
 returns c =
     let a = c .before .before .args in
-    (hang-step (a .n) (a .s .now) (a .i) _ (c .code-of .result) (c .code-of .ok) (c .code-of .ensures) (c .before .if1 .taken), room-kept (a .n) (a .s .now) (a .i) (c .code-of .result) (c .before .before .pre))
+    let e = hang-step (a .n) (a .s .now) (a .i) _ (c .code-of .result) (c .code-of .ok) (c .code-of .ensures) (c .before .if1 .taken) in
+    (e, room-kept (a .n) (a .s .now) (a .i) _ _ e (c .before .before .pre))
 
 returns-2 : tie.Need-returns-2
 returns-2 c = (hang-none (c .before .args .n) (c .before .args .s .now) (c .before .args .i) _ (c .if1 .left), c .before .pre)
