@@ -6,9 +6,10 @@ use mathlib.Core.Path.{_≡_, refl}
 use lib.IntN.{pos, ℤ}
 use lib.ListN.{replicate}
 use Rattle.plain.specs.Turns.{times}
+use Rattle.cells.specs.Rows.{clipped}
 use Rattle.cells.specs.View.{at, place, plus, rd, up, within, wr}
 use Rattle.packed.specs.Gather.{addedLength, allLengths, collectedRest, droppedAll, droppedAt, droppedPart, gatheredOutside, madeRoom, settled, summed}
-use Rattle.packed.specs.Model.{copied, entered, laid, movedDown, movedLow, movedNew, movedNext, movedOne, packedAll, packedLow}
+use Rattle.packed.specs.Model.{copied, entered, laid, laidOne, movedDown, movedLow, movedNew, movedNext, movedOne, packedAll, packedLow}
 use Rattle.packed.specs.Places.{due}
 use Rattle.packed.specs.Tray.{counted, ownPart, passedBy, took, tookAll, tookElement, tookElements, tookOwn, tookPart}
 use Rattle.packed.specs.declared.Made.{Made}
@@ -20,12 +21,12 @@ scratch =
     ++ replicate 52 (pos 0)
 
 space : List ℤ
-space = map pos (9 ∷ 9 ∷ 1 ∷ 2 ∷ 0 ∷ 3 ∷ 2 ∷ 1 ∷ 0 ∷ 9 ∷ 1 ∷ 9 ∷ [])
+space = map pos (3 ∷ 3 ∷ 1 ∷ 2 ∷ 0 ∷ 3 ∷ 2 ∷ 1 ∷ 0 ∷ 3 ∷ 1 ∷ 3 ∷ [])
 
 numbers : gatheredOutside 4 0 11 11 0 space scratch .made ≡ record { start = 4; count = 2; free = 6; base = 3; made = 1; collected = 1 }
-unfolding gatheredOutside settled madeRoom collectedRest droppedAll droppedPart droppedAt allLengths addedLength summed tookAll tookOwn ownPart tookElements tookElement tookPart took counted passedBy packedAll packedLow movedLow movedNew movedNext movedOne movedDown copied laid entered times plus due at wr rd up place within scratch space
+unfolding gatheredOutside settled madeRoom collectedRest droppedAll droppedPart droppedAt allLengths addedLength summed tookAll tookOwn ownPart tookElements tookElement tookPart took counted passedBy packedAll packedLow movedLow movedNew movedNext movedOne movedDown copied laid laidOne entered times clipped plus due at wr rd up place within scratch space
 numbers = refl
 
-lists : gatheredOutside 4 0 11 11 0 space scratch .lists ≡ map pos (1 ∷ 0 ∷ 1 ∷ 2 ∷ 3 ∷ 2 ∷ 2 ∷ 1 ∷ 0 ∷ 9 ∷ 1 ∷ 9 ∷ [])
-unfolding gatheredOutside settled madeRoom collectedRest droppedAll droppedPart droppedAt allLengths addedLength summed tookAll tookOwn ownPart tookElements tookElement tookPart took counted passedBy packedAll packedLow movedLow movedNew movedNext movedOne movedDown copied laid entered times plus due at wr rd up place within scratch space
+lists : gatheredOutside 4 0 11 11 0 space scratch .lists ≡ map pos (1 ∷ 0 ∷ 1 ∷ 2 ∷ 3 ∷ 2 ∷ 2 ∷ 1 ∷ 0 ∷ 3 ∷ 1 ∷ 3 ∷ [])
+unfolding gatheredOutside settled madeRoom collectedRest droppedAll droppedPart droppedAt allLengths addedLength summed tookAll tookOwn ownPart tookElements tookElement tookPart took counted passedBy packedAll packedLow movedLow movedNew movedNext movedOne movedDown copied laid laidOne entered times clipped plus due at wr rd up place within scratch space
 lists = refl

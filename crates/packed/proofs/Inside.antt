@@ -24,8 +24,8 @@ use Rattle.packed.specs.Places.{Space, places}
 use Rattle.packed.specs.Reading.{entriesOf, picked}
 use Rattle.packed.specs.Tray.{emptyTray, taking, tookPart}
 use Rattle.packed.proofs.Dropping.{except}
-use Rattle.packed.proofs.Frame.{ends, len-of}
-use Rattle.packed.proofs.Newcomer.{Laid, laid-some}
+use Rattle.packed.proofs.Frame.{inside-space, len-of}
+use Rattle.packed.proofs.Newcomer.{Laid, laid-some, tabled-low}
 use Rattle.packed.proofs.Picked.{entries-list, picked-firsts}
 use Rattle.packed.proofs.Readings.{holds-part}
 use Rattle.packed.proofs.Spaces.{space-rewritten, space-same}
@@ -57,7 +57,7 @@ module _ (n : ℕ) (X : ℕ → List ℕ) (l s : List ℤ) (cnt base lim : ℕ) 
   len = len-of l (places n s) lim X (g .lists) me
 
   inside-l : 0 < k → p + k ≤ length l
-  inside-l z = omega (arith, ends l (places n s) lim X (g .lists) me z, g .lists .fits)
+  inside-l z = inside-space l (places n s) lim X (g .lists) me z
 
   bound : length (X me) < 2 ^ 63
   bound = ⊎-elim (λ z. omega (arith, inside-l z, len)) (λ z. omega (arith, len)) (split 0 k)
@@ -73,14 +73,14 @@ module _ (n : ℕ) (X : ℕ → List ℕ) (l s : List ℤ) (cnt base lim : ℕ) 
 
   taken : Holds n k s q (0 + length (X me)) (tookPart n k l p k (taking s emptyTray))
   unfolding picked
-  taken = holds-part n small k s l p k (X me) (g .lists .lists me) [] 0 (taking s emptyTray) (omega (arith, bound)) (holds-none n k s (g .room))
+  taken = holds-part n small k s l p k (X me) (g .lists .lists me) inside-l [] 0 (taking s emptyTray) (omega (arith, bound)) (holds-none n k s (g .room))
 
   module _ (s₁ : List ℤ) (t : Tray) (h : Holds n k s q (0 + length (X me)) (taking s₁ t)) where
     space₁ : Space n X l s₁ cnt base lim
     space₁ = space-same n X l s cnt base lim g s₁ (h .room) (λ i. h .fields PE i refl refl) (λ i. h .fields LEN i refl refl) (λ i. h .fields ORD i refl refl)
 
     there : Laid l (rd n TMP s₁) (laid n s₁ p (t .cnt) l) p (t .cnt)
-    there = laid-some n s₁ p (t .cnt) l (λ z. omega (arith, h .cnt, short, inside-l (omega (arith, h .cnt, short))))
+    there = laid-some n s₁ p (t .cnt) l (rw (h .cnt) (tabled-low n s₁ (length q) (entriesOf q) (h .table) (h .low))) (λ z. omega (arith, h .cnt, short, inside-l (omega (arith, h .cnt, short))))
 
     here : entries (at (laid n s₁ p (t .cnt) l)) p (t .cnt) ≡ entriesOf q
     here =

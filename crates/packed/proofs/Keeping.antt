@@ -19,7 +19,7 @@ use Rattle.cells.specs.Layout.{LEN, PE}
 use Rattle.cells.specs.View.{at, plus, rd, up, wr}
 use Rattle.packed.specs.Gather.{Cut, cut, keptOne, keptPart}
 use Rattle.packed.specs.Places.{Space, places}
-use Rattle.packed.proofs.Frame.{ends}
+use Rattle.packed.proofs.Frame.{clipped-some, inside-space}
 use Rattle.packed.proofs.Gathers.{keep-no, keep-yes}
 use Rattle.packed.proofs.Spaces.{space-rewritten}
 
@@ -105,7 +105,8 @@ module _ (n f : ℕ) (s l : List ℤ) (p k : ℕ) (small : k < 2 ^ 63) (fits : 0
   pub kept-part : Kept w l p k (keptPart n f s p k l)
   unfolding keptPart
   kept-part =
-      times-keeps (Kept w l p) step k (λ t m b h. ⊎-elim (λ z. passes t m b h z) (λ z. fails t m b h z) (split 0 (rd n f s (at (m .lists) (p + t))))) k (cut l 0) (omega arith) begun
+      rw (clipped-some (length l) p k fits)
+      (times-keeps (Kept w l p) step k (λ t m b h. ⊎-elim (λ z. passes t m b h z) (λ z. fails t m b h z) (split 0 (rd n f s (at (m .lists) (p + t))))) k (cut l 0) (omega arith) begun)
 
 -- the list of an object
 module _ (n : ℕ) (X : ℕ → List ℕ) (l s : List ℤ) (cnt base lim : ℕ) (g : Space n X l s cnt base lim) (narrow : length l < 2 ^ 63) (f j : ℕ) (hj : j < n) where
@@ -113,7 +114,7 @@ module _ (n : ℕ) (X : ℕ → List ℕ) (l s : List ℤ) (cnt base lim : ℕ) 
   kept = keptPart n f s (rd n PE s j) (rd n LEN s j) l
 
   inside-l : 0 < rd n LEN s j → rd n PE s j + rd n LEN s j ≤ length l
-  inside-l z = omega (arith, ends l (places n s) lim X (g .lists) j z, g .lists .fits)
+  inside-l z = inside-space l (places n s) lim X (g .lists) j z
 
   bound : rd n LEN s j < 2 ^ 63
   bound = ⊎-elim (λ z. omega (arith, inside-l z)) (λ z. omega arith) (split 0 (rd n LEN s j))

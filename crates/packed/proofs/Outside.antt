@@ -202,7 +202,7 @@ module _ (n : ℕ) (X : ℕ → List ℕ) (l s : List ℤ) (made base lim : ℕ)
         stands =
             let e : t .cnt ≡ length new = h .cnt ∙ sym new-length in
             subst⁻¹ (λ (k : ℕ). Settled n Y l s₂ made me (c .ends .end) (c .ends .base) new (laid n (c .mem) (c .ends .end) k (c .lists)) (entered n (c .mem) made me (c .ends .end) k)) e
-            (settled-there n Y l s₂ made me new c hm turns fresh₂ table₂ (rw (← new-length) at r))
+            (settled-there n Y l s₂ made me new c hm turns fresh₂ table₂ (h .low) (rw (← new-length) at r))
 
         whole : (length q ≤ quota → (c .ends .end ≡ lim) × (c .ends .base ≡ base) × (t .mark ≡ 0)) → (quota < length q → (c .ends .end ≡ sumTo n L - t .mark) × (0 < t .mark))
             → Gathered n X l s made base lim me es q (settled n me made t c)

@@ -17,7 +17,7 @@ use Rattle.cells.specs.View.{Room, at, plus, rd}
 use Rattle.packed.specs.Places.{Mem, places}
 use Rattle.packed.specs.Reading.{afterParts, pickOne, picked, readAll, readParts}
 use Rattle.packed.specs.Tray.{Taking, emptyTray, ownPart, passedBy, taking, took, tookAll, tookElement, tookElements, tookOwn, tookPart}
-use Rattle.packed.proofs.Frame.{ends, len-of}
+use Rattle.packed.proofs.Frame.{clipped-some, ends, inside-space, len-of}
 use Rattle.packed.proofs.Picked.{after-is, foldl-append}
 use Rattle.packed.proofs.Taking.{Holds, holds-none, holds-passed, holds-read, wants}
 use Rattle.packed.specs.declared.Tray.{Tray}
@@ -44,15 +44,19 @@ module _ (n : ℕ) (small : n < 2 ^ 63) (quota : ℕ) (s : List ℤ) where
       rw (← e) (holds-list y (pick q (record { entry = x; sofar = suc r })) (suc r) (takeIn m x) (omega arith) (holds-read n small quota s q r m h x (omega arith)))
 
   -- a part of the list space
-  pub holds-part : (l : List ℤ) (p k : ℕ) (y : List ℕ) → entries (at l) p k ≡ y → (q : List Read) (r : ℕ) (m : Taking) → r + length y < 2 ^ 63 → Has q r m
+  pub holds-part : (l : List ℤ) (p k : ℕ) (y : List ℕ) → entries (at l) p k ≡ y → (0 < k → p + k ≤ length l) → (q : List Read) (r : ℕ) (m : Taking) → r + length y < 2 ^ 63 → Has q r m
       → Has (foldl pick q (readList r y)) (r + length y) (tookPart n quota l p k m)
   unfolding tookPart
-  holds-part l p k y e q r m b h = rw (times-fold (took n quota) (at l) p k m, e) (holds-list y q r m b h)
+  holds-part l p k y e fits q r m b h = rw (clipped-some (length l) p k fits, times-fold (took n quota) (at l) p k m, e) (holds-list y q r m b h)
 
   module _ (l : List ℤ) (lim : ℕ) (X : ℕ → List ℕ) (g : Mem l (places n s) lim X) where
     -- the list of an object
     object : (q : List Read) (r : ℕ) (m : Taking) → Has q r m → (e : ℕ) → entries (at l) (rd n PE (m .mem) e) (rd n LEN (m .mem) e) ≡ X e
     object q r m h e = rw (h .fields PE e refl refl, h .fields LEN e refl refl) (g .lists e)
+
+    object-inside : (q : List Read) (r : ℕ) (m : Taking) → Has q r m → (e : ℕ) → 0 < rd n LEN (m .mem) e → rd n PE (m .mem) e + rd n LEN (m .mem) e ≤ length l
+    object-inside q r m h e =
+        rw (h .fields PE e refl refl, h .fields LEN e refl refl) (inside-space l (places n s) lim X g e)
 
     -- an element's number, and its list
     element : ℕ → Taking → Taking
@@ -66,12 +70,12 @@ module _ (n : ℕ) (small : n < 2 ^ 63) (quota : ℕ) (s : List ℤ) where
         let k : suc r + length (X e) ≤ afterParts X (suc r + length (X e)) es = after-grows X (suc r + length (X e)) es in
         rw (foldl-append pick q (readList (suc r) (X e)) (readParts X (suc r + length (X e)) es))
         (holds-elements es (foldl pick q (readList (suc r) (X e))) (suc r + length (X e)) (element e m) b
-        (holds-part l (rd n PE (m .mem) e) (rd n LEN (m .mem) e) (X e) (object q r m h e) q (suc r) (taking (m .mem) (passedBy (m .tray))) (omega arith)
+        (holds-part l (rd n PE (m .mem) e) (rd n LEN (m .mem) e) (X e) (object q r m h e) (object-inside q r m h e) q (suc r) (taking (m .mem) (passedBy (m .tray))) (omega arith)
         (holds-passed n small quota s q r m (omega arith) h)))
 
-    elements-fold : (p k : ℕ) (m : Taking) → tookElements n quota l p k m ≡ foldl (λ a e. element e a) m (entries (at l) p k)
+    elements-fold : (p k : ℕ) (m : Taking) → (0 < k → p + k ≤ length l) → tookElements n quota l p k m ≡ foldl (λ a e. element e a) m (entries (at l) p k)
     unfolding tookElements tookElement element
-    elements-fold p k m = times-fold element (at l) p k m
+    elements-fold p k m fits = rw (clipped-some (length l) p k fits) (times-fold element (at l) p k m)
 
     module _ (me : ℕ) (es vs : List ℕ) (parts : X me ≡ es ++ vs) (elen : rd n ELEN s me ≡ length es) where
       len : rd n LEN s me ≡ length es + length vs
@@ -83,6 +87,9 @@ module _ (n : ℕ) (small : n < 2 ^ 63) (quota : ℕ) (s : List ℤ) where
       pub first-part : entries (at l) (rd n PE s me) (rd n ELEN s me) ≡ es
       first-part =
           rw elen (sym (entries-take (at l) (rd n PE s me) (length es + length vs) (length es) (omega arith)) ∙ ap (λ (y : List ℕ). take (length es) y) whole ∙ take-append-seam es vs)
+
+      first-inside : 0 < rd n ELEN s me → rd n PE s me + rd n ELEN s me ≤ length l
+      first-inside z = omega (arith, elen, len, inside-space l (places n s) lim X g me (omega (arith, elen, len)))
 
       own-from : lim < 2 ^ 63 → 0 < length vs → plus (rd n PE s me) (length es) ≡ rd n PE s me + length es
       own-from b z = plus-sum (rd n PE s me) (length es) (omega (arith, len, ends l (places n s) lim X g me (omega (arith, len))))
@@ -99,13 +106,21 @@ module _ (n : ℕ) (small : n < 2 ^ 63) (quota : ℕ) (s : List ℤ) where
           let e : length es + length vs - length es ≡ length vs = omega arith in
           rw (h .fields PE me refl refl, h .fields ELEN me refl refl, h .fields LEN me refl refl, elen, len, e) (own vs refl b)
 
+      own-inside : lim < 2 ^ 63 → (m : Taking) (q : List Read) (r : ℕ) → Has q r m → 0 < ownPart n (m .mem) me .len
+          → ownPart n (m .mem) me .from + ownPart n (m .mem) me .len ≤ length l
+      unfolding ownPart
+      own-inside b m q r h =
+          let e : length es + length vs - length es ≡ length vs = omega arith in
+          rw (h .fields PE me refl refl, h .fields ELEN me refl refl, h .fields LEN me refl refl, elen, len, e)
+          (λ z. omega (arith, own-from b z, len, inside-space l (places n s) lim X g me (omega (arith, len))))
+
       pub holds-all : lim < 2 ^ 63 → afterParts X 0 es + length vs < 2 ^ 63 → Room n s
           → Has (picked (wants n s) (readAll X es vs)) (afterParts X 0 es + length vs) (tookAll n quota l s me)
       unfolding picked readAll tookAll tookOwn
       holds-all b c room =
           let m₀ : Taking = taking s emptyTray in
           let h₁ : Has (foldl pick [] (readParts X 0 es)) (afterParts X 0 es) (tookElements n quota l (rd n PE s me) (rd n ELEN s me) m₀)
-          = rw (elements-fold (rd n PE s me) (rd n ELEN s me) m₀, first-part) (holds-elements es [] 0 m₀ (omega arith) (holds-none n quota s room)) in
+          = rw (elements-fold (rd n PE s me) (rd n ELEN s me) m₀ first-inside, first-part) (holds-elements es [] 0 m₀ (omega arith) (holds-none n quota s room)) in
           let m₁ = tookElements n quota l (rd n PE s me) (rd n ELEN s me) m₀ in
           rw (foldl-append pick [] (readParts X 0 es) (readList (afterParts X 0 es) vs))
-          (holds-part l (ownPart n (m₁ .mem) me .from) (ownPart n (m₁ .mem) me .len) vs (own-part b m₁ _ _ h₁) (foldl pick [] (readParts X 0 es)) (afterParts X 0 es) m₁ c h₁)
+          (holds-part l (ownPart n (m₁ .mem) me .from) (ownPart n (m₁ .mem) me .len) vs (own-part b m₁ _ _ h₁) (own-inside b m₁ _ _ h₁) (foldl pick [] (readParts X 0 es)) (afterParts X 0 es) m₁ c h₁)

@@ -5,10 +5,19 @@ use mathlib.Core.List.{List}
 use mathlib.Core.Path.{_≡_, ap}
 use borrow.Author.Tests.{le-ltb, lt-ltb}
 use lib.IntN.{ℤ}
+use Rattle.plain.proofs.Turns.{finish}
+use Rattle.plain.specs.Turns.{Turned, times}
 use Rattle.cells.specs.Layout.{LEN, ORD, PE, TMP}
+use Rattle.cells.specs.Rows.{clipped}
 use Rattle.cells.specs.View.{plus, rd, up, wr}
-use Rattle.packed.specs.Model.{Heap, copied, entered, heap, movedDown, movedLow, movedNew, movedNext, movedOne, packedAll, packedLow}
+use Rattle.packed.specs.Model.{Heap, copied, entered, heap, laidOne, movedDown, movedLow, movedNew, movedNext, movedOne, packedAll, packedLow}
 use Rattle.packed.specs.Places.{due, places}
+
+-- ---- a loop over a part of the list space, as far as it is there
+
+pub finish-clipped : {A : Type 0} (f : ℕ → A → A) (m : A) (size p k t : ℕ) (x : A) (c : ℕ) → c ≡ clipped size p k → Turned f m t x → t ≤ c → c ≤ t
+    → x ≡ times (clipped size p k) f m
+finish-clipped f m size p k t x c e h a b = rw (← e) (finish f m t x h c a b)
 
 -- ---- the collection
 
@@ -46,8 +55,14 @@ module _ (n base lim cnt : ℕ) (l s : List ℤ) (l₁ s₁ : List ℤ) (b : ℕ
 
 -- ---- a list laid at a place
 
-pub lay-step : (n : ℕ) (s l : List ℤ) (t e x : ℕ) (r : List ℤ) → x ≡ rd n TMP s t → r ≡ wr l e x → r ≡ wr l e (rd n TMP s t)
-lay-step n s l t e x r hx hr = rw (← hx) hr
+module _ (n : ℕ) (s l : List ℤ) (t e x : ℕ) (hx : x ≡ rd n TMP s t) where
+  pub lay-yes : (r : List ℤ) → r ≡ wr l e x → x < n → r ≡ laidOne n e (rd n TMP s t) l
+  unfolding laidOne
+  lay-yes r hr h = rw (← hx, lt-ltb x n h) hr
+
+  pub lay-no : n ≤ x → l ≡ laidOne n e (rd n TMP s t) l
+  unfolding laidOne
+  lay-no h = rw (← hx, le-ltb x n h)
 
 pub enter-step : (n : ℕ) (s : List ℤ) (cnt j e k : ℕ) (a b c : List ℤ) → a ≡ up n PE s j e → b ≡ up n LEN a j k → c ≡ up n ORD b cnt j → c ≡ entered n s cnt j e k
 unfolding entered

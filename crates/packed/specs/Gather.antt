@@ -8,6 +8,7 @@ use lib.IntN.{ℤ}
 use lib.ListN.{length}
 use Rattle.plain.specs.Turns.{times}
 use Rattle.cells.specs.Layout.{ELEN, LEN, PE}
+use Rattle.cells.specs.Rows.{clipped}
 use Rattle.cells.specs.View.{at, plus, rd, up, wr}
 use Rattle.packed.specs.Model.{entered, laid, packedAll, packedLow}
 use Rattle.packed.specs.Tray.{Taking, emptyTray, taking, tookAll, tookPart}
@@ -127,4 +128,4 @@ keptOne n f s q e m =
     cond (ltb 0 (rd n f s (at (m .lists) q))) (cut (wr (m .lists) e (at (m .lists) q)) (plus (m .count) 1)) m
 
 unfoldable pub keptPart : ℕ → ℕ → List ℤ → ℕ → ℕ → List ℤ → Cut
-keptPart n f s p k l = times k (λ t m. keptOne n f s (p + t) (p + m .count) m) (cut l 0)
+keptPart n f s p k l = times (clipped (length l) p k) (λ t m. keptOne n f s (p + t) (p + m .count) m) (cut l 0)

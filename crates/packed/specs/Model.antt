@@ -54,9 +54,13 @@ packedAll n base lim cnt l s = movedNew n lim cnt (packedLow n base l s)
 
 -- ---- a list laid at a place
 
+-- x in cell e, if it is a row: the list space holds nothing else
+unfoldable pub laidOne : ℕ → ℕ → ℕ → List ℤ → List ℤ
+laidOne n e x l = cond (ltb x n) (wr l e x) l
+
 -- the first k numbers of the scratch table, copied to e on
 unfoldable pub laid : ℕ → List ℤ → ℕ → ℕ → List ℤ → List ℤ
-laid n s e k l = times k (λ t m. wr m (e + t) (rd n TMP s t)) l
+laid n s e k l = times k (λ t. laidOne n (e + t) (rd n TMP s t)) l
 
 -- object j, with k numbers from e on, is the last of the order
 unfoldable pub entered : ℕ → List ℤ → ℕ → ℕ → ℕ → ℕ → List ℤ

@@ -5,8 +5,10 @@ use mathlib.Core.Bool.{cond}
 use mathlib.Core.List.{List}
 use lib.Dec.{eqb, ltb}
 use lib.IntN.{ℤ}
+use lib.ListN.{length}
 use Rattle.plain.specs.Turns.{times}
 use Rattle.cells.specs.Layout.{ELEN, LEN, PE, TMP, WANT}
+use Rattle.cells.specs.Rows.{clipped}
 use Rattle.cells.specs.View.{at, plus, rd, up}
 use Rattle.packed.specs.declared.Part.{Part}
 use Rattle.packed.specs.declared.Tray.{Tray}
@@ -39,9 +41,9 @@ took n quota x m =
     (taking (up n TMP (up n WANT (m .mem) x 0) (m .tray .cnt) x) (counted quota (plus (m .tray .reads) 1) (m .tray)))
     (taking (m .mem) (passedBy (m .tray)))
 
--- the numbers of a part of the list space
+-- the numbers of a part of the list space, as far as it is there
 unfoldable pub tookPart : ℕ → ℕ → List ℤ → ℕ → ℕ → Taking → Taking
-tookPart n quota l p k m = times k (λ t. took n quota (at l (p + t))) m
+tookPart n quota l p k m = times (clipped (length l) p k) (λ t. took n quota (at l (p + t))) m
 
 -- the number of an element, and then the element's own list
 unfoldable pub tookElement : ℕ → ℕ → List ℤ → ℕ → Taking → Taking
@@ -50,7 +52,7 @@ tookElement n quota l q m =
 
 -- the elements whose numbers are in a part of the list space
 unfoldable pub tookElements : ℕ → ℕ → List ℤ → ℕ → ℕ → Taking → Taking
-tookElements n quota l p k m = times k (λ t. tookElement n quota l (p + t)) m
+tookElements n quota l p k m = times (clipped (length l) p k) (λ t. tookElement n quota l (p + t)) m
 
 -- the part of a list behind its elements
 unfoldable pub ownPart : ℕ → List ℤ → ℕ → Part

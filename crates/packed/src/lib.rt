@@ -2,10 +2,12 @@
 // Nothing here asks for a memory that makes sense: a contract is the function's own model, and the laws of `proofs/` say what it does to the lists.
 ghost use mathlib.Core.Path.{_≡_};
 ghost use Prim.Native.Nat.{_+_, _<_, _≤_, _^_};
-ghost use Rattle.cells.specs.View.{Room, at, wr, rd};
+ghost use lib.ListN.{length};
+ghost use Rattle.cells.specs.View.{Room, at, rd};
+ghost use Rattle.cells.specs.Rows.{Rows};
 ghost use Rattle.cells.specs.Layout.{TMP};
 ghost use Rattle.packed.specs.Places.{places, due};
-ghost use Rattle.packed.specs.Model.{copied, heap, movedOne, movedLow, movedNext, movedNew, packedLow, packedAll, laid, entered};
+ghost use Rattle.packed.specs.Model.{copied, heap, movedOne, movedLow, movedNext, movedNew, packedLow, packedAll, laidOne, laid, entered};
 ghost use Rattle.packed.specs.Tray.{Small, taking, counted, passedBy, took, tookPart, tookElement, tookElements, ownPart, tookAll};
 ghost use Rattle.packed.specs.Gather.{droppedAt, droppedPart, droppedAll, addedLength, allLengths, cleared, collectedRest, madeRoom, outside, Brief, summed, gatheredOutside, inside, gatheredInside, cut, keptOne, keptPart};
 
@@ -16,12 +18,12 @@ pub struct Ends {
 }
 
 // The `len` numbers from `p` on, moved to `e` on, first the first.
-pub fn copy_down(lists: &mut [i64], p: usize, e: usize, len: usize)
-    requires { ⌜ (p < 2 ^ 63) × (e < 2 ^ 63) × (len < 2 ^ 63) ⌝ }
-    ensures { λ _. ⌜ now (lists .exit) ≡ copied p e len (now (lists .entry)) ⌝ }
+pub fn copy_down(lists: &mut [i64], n: usize, p: usize, e: usize, len: usize)
+    requires { ⌜ Rows n (now lists) × (p < 2 ^ 63) × (e < 2 ^ 63) × (len < 2 ^ 63) ⌝ }
+    ensures { λ _. ⌜ (now (lists .exit) ≡ copied p e len (now (lists .entry))) × Rows n (now (lists .exit)) ⌝ }
 {
     for k in 0..len {
-        cells::copy_cell(lists, p + k, e + k);
+        cells::copy_row(lists, n, p + k, e + k);
     }
 }
 
@@ -47,13 +49,13 @@ pub fn move_one(
     j: usize,
     end: usize,
 ) -> usize
-    requires { ⌜ Room n (now s) × (end < 2 ^ 63) ⌝ }
-    ensures { λ r. ⌜ (heap (now (lists .exit)) (now (s .exit)) r ≡ movedOne n top j (heap (now (lists .entry)) (now (s .entry)) end)) × Room n (now (s .exit)) × (r < 2 ^ 63) ⌝ }
+    requires { ⌜ Room n (now s) × Rows n (now lists) × (end < 2 ^ 63) ⌝ }
+    ensures { λ r. ⌜ (heap (now (lists .exit)) (now (s .exit)) r ≡ movedOne n top j (heap (now (lists .entry)) (now (s .entry)) end)) × Room n (now (s .exit)) × Rows n (now (lists .exit)) × (r < 2 ^ 63) ⌝ }
 {
     let k = due(s, n, top, j);
     if 0 < k {
         let p = cells::rd(s, n, cells::PE, j);
-        copy_down(lists, p, end, k);
+        copy_down(lists, n, p, end, k);
         cells::up(s, n, cells::PE, j, end);
         cells::plus(end, k)
     } else {
@@ -63,8 +65,8 @@ pub fn move_one(
 
 // Moves the lists that begin below `top`, by number.
 pub fn move_low(lists: &mut [i64], s: &mut [i64], n: usize, top: usize, start: usize) -> usize
-    requires { ⌜ Room n (now s) × (start < 2 ^ 63) ⌝ }
-    ensures { λ r. ⌜ (heap (now (lists .exit)) (now (s .exit)) r ≡ movedLow n top n (heap (now (lists .entry)) (now (s .entry)) start)) × Room n (now (s .exit)) × (r < 2 ^ 63) ⌝ }
+    requires { ⌜ Room n (now s) × Rows n (now lists) × (start < 2 ^ 63) ⌝ }
+    ensures { λ r. ⌜ (heap (now (lists .exit)) (now (s .exit)) r ≡ movedLow n top n (heap (now (lists .entry)) (now (s .entry)) start)) × Room n (now (s .exit)) × Rows n (now (lists .exit)) × (r < 2 ^ 63) ⌝ }
 {
     let mut end = start;
     for j in 0..n {
@@ -82,8 +84,8 @@ pub fn move_next(
     t: usize,
     end: usize,
 ) -> usize
-    requires { ⌜ Room n (now s) × (end < 2 ^ 63) ⌝ }
-    ensures { λ r. ⌜ (heap (now (lists .exit)) (now (s .exit)) r ≡ movedNext n top t (heap (now (lists .entry)) (now (s .entry)) end)) × Room n (now (s .exit)) × (r < 2 ^ 63) ⌝ }
+    requires { ⌜ Room n (now s) × Rows n (now lists) × (end < 2 ^ 63) ⌝ }
+    ensures { λ r. ⌜ (heap (now (lists .exit)) (now (s .exit)) r ≡ movedNext n top t (heap (now (lists .entry)) (now (s .entry)) end)) × Room n (now (s .exit)) × Rows n (now (lists .exit)) × (r < 2 ^ 63) ⌝ }
 {
     let j = cells::tab(s, n, cells::ORD, t);
     move_one(lists, s, n, top, j, end)
@@ -98,8 +100,8 @@ pub fn move_new(
     cnt: usize,
     start: usize,
 ) -> usize
-    requires { ⌜ Room n (now s) × (start < 2 ^ 63) ⌝ }
-    ensures { λ r. ⌜ (heap (now (lists .exit)) (now (s .exit)) r ≡ movedNew n top cnt (heap (now (lists .entry)) (now (s .entry)) start)) × Room n (now (s .exit)) × (r < 2 ^ 63) ⌝ }
+    requires { ⌜ Room n (now s) × Rows n (now lists) × (start < 2 ^ 63) ⌝ }
+    ensures { λ r. ⌜ (heap (now (lists .exit)) (now (s .exit)) r ≡ movedNew n top cnt (heap (now (lists .entry)) (now (s .entry)) start)) × Room n (now (s .exit)) × Rows n (now (lists .exit)) × (r < 2 ^ 63) ⌝ }
 {
     let mut end = start;
     for t in 0..cnt {
@@ -117,8 +119,8 @@ pub fn collect(
     lim: usize,
     cnt: usize,
 ) -> Ends
-    requires { ⌜ Room n (now s) ⌝ }
-    ensures { λ r. ⌜ (r .base ≡ packedLow n base (now (lists .entry)) (now (s .entry)) .end) × (heap (now (lists .exit)) (now (s .exit)) (r .end) ≡ packedAll n base lim cnt (now (lists .entry)) (now (s .entry))) × Room n (now (s .exit)) × (r .end < 2 ^ 63) ⌝ }
+    requires { ⌜ Room n (now s) × Rows n (now lists) ⌝ }
+    ensures { λ r. ⌜ (r .base ≡ packedLow n base (now (lists .entry)) (now (s .entry)) .end) × (heap (now (lists .exit)) (now (s .exit)) (r .end) ≡ packedAll n base lim cnt (now (lists .entry)) (now (s .entry))) × Room n (now (s .exit)) × Rows n (now (lists .exit)) × (r .end < 2 ^ 63) ⌝ }
 {
     let b = move_low(lists, s, n, base, 0);
     let e = move_new(lists, s, n, lim, cnt, b);
@@ -127,19 +129,21 @@ pub fn collect(
 
 // ---- a list laid at a place
 
-// Cell `e` of the lists becomes number `t` of the scratch table.
+// Cell `e` of the lists becomes number `t` of the scratch table, if that is a row.
 pub fn lay_one(lists: &mut [i64], s: &[i64], n: usize, t: usize, e: usize)
-    requires { ⌜ Room n (now s) ⌝ }
-    ensures { λ _. ⌜ now (lists .exit) ≡ wr (now (lists .entry)) e (rd n TMP (now (s .entry)) t) ⌝ }
+    requires { ⌜ Room n (now s) × Rows n (now lists) ⌝ }
+    ensures { λ _. ⌜ (now (lists .exit) ≡ laidOne n e (rd n TMP (now (s .entry)) t) (now (lists .entry))) × Rows n (now (lists .exit)) ⌝ }
 {
     let x = cells::tab(s, n, cells::TMP, t);
-    cells::poke(lists, e, x);
+    if x < n {
+        cells::poke_row(lists, n, e, x);
+    }
 }
 
 // The first `k` numbers of the scratch table, copied to `e` on.
 pub fn lay(lists: &mut [i64], s: &[i64], n: usize, e: usize, k: usize)
-    requires { ⌜ Room n (now s) × (e < 2 ^ 63) × (k < 2 ^ 63) ⌝ }
-    ensures { λ _. ⌜ now (lists .exit) ≡ laid n (now (s .entry)) e k (now (lists .entry)) ⌝ }
+    requires { ⌜ Room n (now s) × Rows n (now lists) × (e < 2 ^ 63) × (k < 2 ^ 63) ⌝ }
+    ensures { λ _. ⌜ (now (lists .exit) ≡ laid n (now (s .entry)) e k (now (lists .entry))) × Rows n (now (lists .exit)) ⌝ }
 {
     for t in 0..k {
         lay_one(lists, s, n, t, e + t);
@@ -148,12 +152,12 @@ pub fn lay(lists: &mut [i64], s: &[i64], n: usize, e: usize, k: usize)
 
 // Object `j` gets the first `k` numbers of the scratch table as its list, at `e`, and is the last of the order.
 pub fn enter(lists: &mut [i64], s: &mut [i64], n: usize, cnt: usize, j: usize, e: usize, k: usize)
-    requires { ⌜ Room n (now s) × (e < 2 ^ 63) × (k < 2 ^ 63) × (j < 2 ^ 63) ⌝ }
-    ensures { λ _. ⌜ (now (lists .exit) ≡ laid n (now (s .entry)) e k (now (lists .entry))) × (now (s .exit) ≡ entered n (now (s .entry)) cnt j e k) × Room n (now (s .exit)) ⌝ }
+    requires { ⌜ Room n (now s) × Rows n (now lists) × (e < 2 ^ 63) × (k < 2 ^ 63) × (j < n) ⌝ }
+    ensures { λ _. ⌜ (now (lists .exit) ≡ laid n (now (s .entry)) e k (now (lists .entry))) × (now (s .exit) ≡ entered n (now (s .entry)) cnt j e k) × Room n (now (s .exit)) × Rows n (now (lists .exit)) ⌝ }
 {
     lay(lists, s, n, e, k);
-    cells::up(s, n, cells::PE, j, e);
-    cells::up(s, n, cells::LEN, j, k);
+    cells::set(s, n, cells::PE, j, e);
+    cells::set(s, n, cells::LEN, j, k);
     cells::put(s, n, cells::ORD, cnt, j);
 }
 
@@ -202,12 +206,12 @@ pub fn pass(t: Tray) -> Tray
 
 // Reads the entry `x`: it goes into the table if it is wanted.
 pub fn take_one(s: &mut [i64], n: usize, x: usize, quota: usize, t: Tray) -> Tray
-    requires { ⌜ Room n (now s) × (x < 2 ^ 63) × Small t ⌝ }
+    requires { ⌜ Room n (now s) × (x < n) × Small t ⌝ }
     ensures { λ r. ⌜ (taking (now (s .exit)) r ≡ took n quota x (taking (now (s .entry)) t)) × Room n (now (s .exit)) × Small r ⌝ }
 {
-    let w = cells::rd(s, n, cells::WANT, x);
+    let w = cells::get(s, n, cells::WANT, x);
     if 0 < w {
-        cells::up(s, n, cells::WANT, x, 0);
+        cells::set(s, n, cells::WANT, x, 0);
         cells::put(s, n, cells::TMP, t.cnt, x);
         let k = cells::plus(t.reads, 1);
         count(quota, k, t)
@@ -218,10 +222,10 @@ pub fn take_one(s: &mut [i64], n: usize, x: usize, quota: usize, t: Tray) -> Tra
 
 // The same of the number in cell `q` of the lists.
 pub fn take_at(lists: &[i64], s: &mut [i64], n: usize, q: usize, quota: usize, t: Tray) -> Tray
-    requires { ⌜ Room n (now s) × Small t ⌝ }
+    requires { ⌜ Room n (now s) × Rows n (now lists) × (q < length (now lists)) × Small t ⌝ }
     ensures { λ r. ⌜ (taking (now (s .exit)) r ≡ took n quota (at (now (lists .entry)) q) (taking (now (s .entry)) t)) × Room n (now (s .exit)) × Small r ⌝ }
 {
-    let x = cells::peek(lists, q);
+    let x = cells::row(lists, n, q);
     take_one(s, n, x, quota, t)
 }
 
@@ -235,11 +239,12 @@ pub fn take_part(
     quota: usize,
     start: Tray,
 ) -> Tray
-    requires { ⌜ Room n (now s) × (p < 2 ^ 63) × (k < 2 ^ 63) × Small start ⌝ }
+    requires { ⌜ Room n (now s) × Rows n (now lists) × (p < 2 ^ 63) × (k < 2 ^ 63) × Small start ⌝ }
     ensures { λ r. ⌜ (taking (now (s .exit)) r ≡ tookPart n quota (now (lists .entry)) p k (taking (now (s .entry)) start)) × Room n (now (s .exit)) × Small r ⌝ }
 {
+    let m = cells::clip(lists.len(), p, k);
     let mut t = start;
-    for i in 0..k {
+    for i in 0..m {
         t = take_at(lists, s, n, p + i, quota, t);
     }
     t
@@ -247,12 +252,12 @@ pub fn take_part(
 
 // Reads the number of an element in cell `q`, and then the element's own list.
 pub fn take_element(lists: &[i64], s: &mut [i64], n: usize, q: usize, quota: usize, t: Tray) -> Tray
-    requires { ⌜ Room n (now s) × Small t ⌝ }
+    requires { ⌜ Room n (now s) × Rows n (now lists) × (q < length (now lists)) × Small t ⌝ }
     ensures { λ r. ⌜ (taking (now (s .exit)) r ≡ tookElement n quota (now (lists .entry)) q (taking (now (s .entry)) t)) × Room n (now (s .exit)) × Small r ⌝ }
 {
-    let e = cells::peek(lists, q);
-    let p = cells::rd(s, n, cells::PE, e);
-    let k = cells::rd(s, n, cells::LEN, e);
+    let e = cells::row(lists, n, q);
+    let p = cells::get(s, n, cells::PE, e);
+    let k = cells::get(s, n, cells::LEN, e);
     let u = pass(t);
     take_part(lists, s, n, p, k, quota, u)
 }
@@ -267,11 +272,12 @@ pub fn take_elements(
     quota: usize,
     start: Tray,
 ) -> Tray
-    requires { ⌜ Room n (now s) × (p < 2 ^ 63) × (k < 2 ^ 63) × Small start ⌝ }
+    requires { ⌜ Room n (now s) × Rows n (now lists) × (p < 2 ^ 63) × (k < 2 ^ 63) × Small start ⌝ }
     ensures { λ r. ⌜ (taking (now (s .exit)) r ≡ tookElements n quota (now (lists .entry)) p k (taking (now (s .entry)) start)) × Room n (now (s .exit)) × Small r ⌝ }
 {
+    let m = cells::clip(lists.len(), p, k);
     let mut t = start;
-    for i in 0..k {
+    for i in 0..m {
         t = take_element(lists, s, n, p + i, quota, t);
     }
     t
@@ -285,12 +291,12 @@ pub struct Part {
 
 // The part of the list of `me` behind its elements.
 pub fn own_part(s: &[i64], n: usize, me: usize) -> Part
-    requires { ⌜ Room n (now s) ⌝ }
+    requires { ⌜ Room n (now s) × (me < n) ⌝ }
     ensures { λ r. ⌜ (r ≡ ownPart n (now (s .entry)) me) × (r .from < 2 ^ 63) × (r .len < 2 ^ 63) ⌝ }
 {
-    let p = cells::rd(s, n, cells::PE, me);
-    let k = cells::rd(s, n, cells::ELEN, me);
-    let len = cells::rd(s, n, cells::LEN, me);
+    let p = cells::get(s, n, cells::PE, me);
+    let k = cells::get(s, n, cells::ELEN, me);
+    let len = cells::get(s, n, cells::LEN, me);
     let from = cells::plus(p, k);
     let rest = cells::less(len, k);
     Part {
@@ -301,11 +307,11 @@ pub fn own_part(s: &[i64], n: usize, me: usize) -> Part
 
 // Reads the lists of the elements of `me` in order, and then its own variables.
 pub fn take_all(lists: &[i64], s: &mut [i64], n: usize, me: usize, quota: usize) -> Tray
-    requires { ⌜ Room n (now s) ⌝ }
+    requires { ⌜ Room n (now s) × Rows n (now lists) × (me < n) ⌝ }
     ensures { λ r. ⌜ (taking (now (s .exit)) r ≡ tookAll n quota (now (lists .entry)) (now (s .entry)) me) × Room n (now (s .exit)) × Small r ⌝ }
 {
-    let p = cells::rd(s, n, cells::PE, me);
-    let k = cells::rd(s, n, cells::ELEN, me);
+    let p = cells::get(s, n, cells::PE, me);
+    let k = cells::get(s, n, cells::ELEN, me);
     let t = take_elements(
         lists,
         s,
@@ -389,8 +395,8 @@ pub fn collect_rest(
     cnt: usize,
     mark: usize,
 ) -> Ends
-    requires { ⌜ Room n (now s) ⌝ }
-    ensures { λ r. ⌜ (cleared (now (lists .exit)) (now (s .exit)) r ≡ collectedRest n me base lim cnt mark (now (lists .entry)) (now (s .entry))) × Room n (now (s .exit)) × (r .end < 2 ^ 63) ⌝ }
+    requires { ⌜ Room n (now s) × Rows n (now lists) ⌝ }
+    ensures { λ r. ⌜ (cleared (now (lists .exit)) (now (s .exit)) r ≡ collectedRest n me base lim cnt mark (now (lists .entry)) (now (s .entry))) × Room n (now (s .exit)) × Rows n (now (lists .exit)) × (r .end < 2 ^ 63) ⌝ }
 {
     let all = all_lengths(s, n);
     drop_all(lists, s, n, me);
@@ -413,8 +419,8 @@ pub fn make_room(
     cnt: usize,
     mark: usize,
 ) -> Ends
-    requires { ⌜ Room n (now s) × (lim < 2 ^ 63) ⌝ }
-    ensures { λ r. ⌜ (cleared (now (lists .exit)) (now (s .exit)) r ≡ madeRoom n me base lim cnt mark (now (lists .entry)) (now (s .entry))) × Room n (now (s .exit)) × (r .end < 2 ^ 63) ⌝ }
+    requires { ⌜ Room n (now s) × Rows n (now lists) × (lim < 2 ^ 63) ⌝ }
+    ensures { λ r. ⌜ (cleared (now (lists .exit)) (now (s .exit)) r ≡ madeRoom n me base lim cnt mark (now (lists .entry)) (now (s .entry))) × Room n (now (s .exit)) × Rows n (now (lists .exit)) × (r .end < 2 ^ 63) ⌝ }
 {
     if 0 < mark {
         collect_rest(lists, s, n, me, base, lim, cnt, mark)
@@ -466,8 +472,8 @@ pub fn gather_outside(
     lim: usize,
     made: usize,
 ) -> Made
-    requires { ⌜ Room n (now s) × (me < 2 ^ 63) × (lim < 2 ^ 63) × (made < 2 ^ 63) ⌝ }
-    ensures { λ r. ⌜ (outside (now (lists .exit)) (now (s .exit)) r ≡ gatheredOutside n me base lim made (now (lists .entry)) (now (s .entry))) × Room n (now (s .exit)) × Brief r ⌝ }
+    requires { ⌜ Room n (now s) × Rows n (now lists) × (me < n) × (lim < 2 ^ 63) × (made < 2 ^ 63) ⌝ }
+    ensures { λ r. ⌜ (outside (now (lists .exit)) (now (s .exit)) r ≡ gatheredOutside n me base lim made (now (lists .entry)) (now (s .entry))) × Room n (now (s .exit)) × Rows n (now (lists .exit)) × Brief r ⌝ }
 {
     let quota = cells::less(lists.len(), lim);
     let t = take_all(lists, s, n, me, quota);
@@ -478,11 +484,11 @@ pub fn gather_outside(
 
 // The list of the new element `me`, which has no elements, from its own variables, in its own place. The result is its length.
 pub fn gather_in_place(lists: &mut [i64], s: &mut [i64], n: usize, me: usize) -> usize
-    requires { ⌜ Room n (now s) ⌝ }
-    ensures { λ r. ⌜ (inside (now (lists .exit)) (now (s .exit)) r ≡ gatheredInside n me (now (lists .entry)) (now (s .entry))) × Room n (now (s .exit)) × (r < 2 ^ 63) ⌝ }
+    requires { ⌜ Room n (now s) × Rows n (now lists) × (me < n) ⌝ }
+    ensures { λ r. ⌜ (inside (now (lists .exit)) (now (s .exit)) r ≡ gatheredInside n me (now (lists .entry)) (now (s .entry))) × Room n (now (s .exit)) × Rows n (now (lists .exit)) × (r < 2 ^ 63) ⌝ }
 {
-    let p = cells::rd(s, n, cells::PE, me);
-    let k = cells::rd(s, n, cells::LEN, me);
+    let p = cells::get(s, n, cells::PE, me);
+    let k = cells::get(s, n, cells::LEN, me);
     let t = take_part(
         lists,
         s,
@@ -497,7 +503,7 @@ pub fn gather_in_place(lists: &mut [i64], s: &mut [i64], n: usize, me: usize) ->
         },
     );
     lay(lists, s, n, p, t.cnt);
-    cells::up(s, n, cells::LEN, me, t.cnt);
+    cells::set(s, n, cells::LEN, me, t.cnt);
     t.cnt
 }
 
@@ -513,13 +519,13 @@ pub fn keep_one(
     e: usize,
     cnt: usize,
 ) -> usize
-    requires { ⌜ (f < 8) × Room n (now s) × (cnt < 2 ^ 63) ⌝ }
-    ensures { λ r. ⌜ (cut (now (lists .exit)) r ≡ keptOne n f (now (s .entry)) q e (cut (now (lists .entry)) cnt)) × (r < 2 ^ 63) ⌝ }
+    requires { ⌜ (f < 8) × Room n (now s) × Rows n (now lists) × (q < length (now lists)) × (e < length (now lists)) × (cnt < 2 ^ 63) ⌝ }
+    ensures { λ r. ⌜ (cut (now (lists .exit)) r ≡ keptOne n f (now (s .entry)) q e (cut (now (lists .entry)) cnt)) × Rows n (now (lists .exit)) × (r ≤ cnt + 1) × (r < 2 ^ 63) ⌝ }
 {
-    let x = cells::peek(lists, q);
-    let w = cells::rd(s, n, f, x);
+    let x = cells::row(lists, n, q);
+    let w = cells::get(s, n, f, x);
     if 0 < w {
-        cells::poke(lists, e, x);
+        cells::put_row(lists, n, e, x);
         cells::plus(cnt, 1)
     } else {
         cnt
@@ -528,11 +534,12 @@ pub fn keep_one(
 
 // Of the `k` numbers from `p` on, those whose field `f` is not 0, in order from `p` on. The result is how many they are.
 pub fn keep_in_place(lists: &mut [i64], s: &[i64], n: usize, f: usize, p: usize, k: usize) -> usize
-    requires { ⌜ (f < 8) × Room n (now s) × (p < 2 ^ 63) × (k < 2 ^ 63) ⌝ }
-    ensures { λ r. ⌜ (cut (now (lists .exit)) r ≡ keptPart n f (now (s .entry)) p k (now (lists .entry))) × (r < 2 ^ 63) ⌝ }
+    requires { ⌜ (f < 8) × Room n (now s) × Rows n (now lists) × (p < 2 ^ 63) × (k < 2 ^ 63) ⌝ }
+    ensures { λ r. ⌜ (cut (now (lists .exit)) r ≡ keptPart n f (now (s .entry)) p k (now (lists .entry))) × Rows n (now (lists .exit)) × (r < 2 ^ 63) ⌝ }
 {
+    let m = cells::clip(lists.len(), p, k);
     let mut cnt = 0;
-    for t in 0..k {
+    for t in 0..m {
         cnt = keep_one(lists, s, n, f, p + t, p + cnt, cnt);
     }
     cnt

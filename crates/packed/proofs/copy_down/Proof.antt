@@ -2,6 +2,7 @@ use borrow.Author.Needs.{needs}
 use mathlib.Core.Path.{_≡_}
 use Prim.Native.Nat.{_+_, _≤_, _-_}
 use lib.ListN.{length}
+use Rattle.cells.specs.Rows.{Rows}
 use Rattle.cells.specs.View.{at, wr}
 use Rattle.packed.specs.Model.{copied}
 use Rattle.plain.specs.Turns.{Turned}
@@ -10,29 +11,29 @@ use Rattle.packed.proofs.copy_down.Statement.{statement}
 use Rattle.packed.proofs.copy_down.Tie as tie
 use Rattle.packed.proofs.copy_down.Reads as reads
 use Rattle.packed.proofs.copy_down.Lts as lts
-use Rattle.cells.proofs.copy_cell.Reads as copy-cell-reads
+use Rattle.cells.proofs.copy_row.Reads as copy-row-reads
 
 abbrev Inv-loop : tie.InvT-loop
-Inv-loop lists₀ p e len k₀ lists k = Turned (λ t m. wr m (e + t) (at m (p + t))) lists₀ k lists × (length lists ≡ length lists₀) × (k ≤ len)
+Inv-loop lists₀ n p e len k₀ lists k = Turned (λ t m. wr m (e + t) (at m (p + t))) lists₀ k lists × (length lists ≡ length lists₀) × Rows n lists × (k ≤ len)
 
 abbrev μ-loop : tie.MeasureT-loop
-μ-loop lists₀ p e len k₀ lists k = len - k
+μ-loop lists₀ n p e len k₀ lists k = len - k
 
 -- src/lib.rt:41:5
 loop-holds : tie.Need-loop-holds Inv-loop μ-loop
 loop-holds c = search (needs, begin)
 
 -- src/lib.rt:42:26
-add-copy-cell : tie.Need-add-copy-cell Inv-loop μ-loop
-add-copy-cell c = search needs
+add-copy-row : tie.Need-add-copy-row Inv-loop μ-loop
+add-copy-row c = search needs
 
 -- src/lib.rt:42:33
-add-copy-cell-2 : tie.Need-add-copy-cell-2 Inv-loop μ-loop
-add-copy-cell-2 c = search needs
+add-copy-row-2 : tie.Need-add-copy-row-2 Inv-loop μ-loop
+add-copy-row-2 c = search needs
 
 -- src/lib.rt:42:9
-copy-cell-requires : tie.Need-copy-cell-requires Inv-loop μ-loop
-copy-cell-requires c κs = search needs
+copy-row-requires : tie.Need-copy-row-requires Inv-loop μ-loop
+copy-row-requires c κs = search needs
 
 -- src/lib.rt:41:9
 add-k : tie.Need-add-k Inv-loop μ-loop
@@ -62,9 +63,9 @@ copy-down-spec =
     Inv-loop
     μ-loop
     loop-holds
-    add-copy-cell
-    add-copy-cell-2
-    copy-cell-requires
+    add-copy-row
+    add-copy-row-2
+    copy-row-requires
     add-k
     loop-less
     loop-again

@@ -4,7 +4,7 @@ use Rattle.packed.proofs.enter.Statement.{statement}
 use Rattle.packed.proofs.enter.Tie as tie
 use Rattle.packed.proofs.enter.Reads as reads
 use Rattle.packed.proofs.enter.Lts as lts
-use Rattle.cells.proofs.up.Reads as up-reads
+use Rattle.cells.proofs.set.Reads as set-reads
 use Rattle.packed.proofs.lay.Reads as lay-reads
 
 -- src/lib.rt:146:5
@@ -12,12 +12,12 @@ lay-requires : tie.Need-lay-requires
 lay-requires c κs = search needs
 
 -- src/lib.rt:147:5
-up-requires : tie.Need-up-requires
-up-requires c κs = search needs
+set-requires : tie.Need-set-requires
+set-requires c κs = search needs
 
 -- src/lib.rt:148:5
-up-requires-2 : tie.Need-up-requires-2
-up-requires-2 c κs = search needs
+set-requires-2 : tie.Need-set-requires-2
+set-requires-2 c κs = search needs
 
 -- src/lib.rt:149:5
 put-requires : tie.Need-put-requires
@@ -40,8 +40,8 @@ enter-spec =
     tie.close
     (tie.spec
     lay-requires
-    up-requires
-    up-requires-2
+    set-requires
+    set-requires-2
     put-requires
     same-length
     same-length-2

@@ -4,18 +4,18 @@ use Rattle.packed.proofs.gather_in_place.Statement.{statement}
 use Rattle.packed.proofs.gather_in_place.Tie as tie
 use Rattle.packed.proofs.gather_in_place.Reads as reads
 use Rattle.packed.proofs.gather_in_place.Lts as lts
-use Rattle.cells.proofs.rd.Reads as rd-reads
-use Rattle.cells.proofs.up.Reads as up-reads
+use Rattle.cells.proofs.get.Reads as get-reads
+use Rattle.cells.proofs.set.Reads as set-reads
 use Rattle.packed.proofs.lay.Reads as lay-reads
 use Rattle.packed.proofs.take_part.Reads as take-part-reads
 
 -- src/lib.rt:451:9
-rd-requires : tie.Need-rd-requires
-rd-requires c κs = search needs
+get-requires : tie.Need-get-requires
+get-requires c κs = search needs
 
 -- src/lib.rt:452:9
-rd-requires-2 : tie.Need-rd-requires-2
-rd-requires-2 c κs = search needs
+get-requires-2 : tie.Need-get-requires-2
+get-requires-2 c κs = search needs
 
 -- src/lib.rt:453:9
 take-part-requires : tie.Need-take-part-requires
@@ -26,8 +26,8 @@ lay-requires : tie.Need-lay-requires
 lay-requires c κs = search needs
 
 -- src/lib.rt:455:5
-up-requires : tie.Need-up-requires
-up-requires c κs = search needs
+set-requires : tie.Need-set-requires
+set-requires c κs = search needs
 
 -- src/lib.rt:447:1
 same-length : tie.Need-same-length
@@ -45,11 +45,11 @@ pub gather-in-place-spec : {M : Type 1} → statement M
 gather-in-place-spec =
     tie.close
     (tie.spec
-    rd-requires
-    rd-requires-2
+    get-requires
+    get-requires-2
     take-part-requires
     lay-requires
-    up-requires
+    set-requires
     same-length
     same-length-2
     returns)

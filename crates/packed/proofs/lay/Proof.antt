@@ -2,9 +2,10 @@ use borrow.Author.Needs.{needs}
 use mathlib.Core.Path.{_≡_}
 use Prim.Native.Nat.{_+_, _≤_, _-_}
 use lib.ListN.{length}
-use Rattle.cells.specs.View.{wr, rd}
+use Rattle.cells.specs.Rows.{Rows}
+use Rattle.cells.specs.View.{rd}
 use Rattle.cells.specs.Layout.{TMP}
-use Rattle.packed.specs.Model.{laid}
+use Rattle.packed.specs.Model.{laid, laidOne}
 use Rattle.plain.specs.Turns.{Turned}
 use Rattle.plain.proofs.Turns.{begin, turn, finish}
 use Rattle.packed.proofs.lay.Statement.{statement}
@@ -14,7 +15,7 @@ use Rattle.packed.proofs.lay.Lts as lts
 use Rattle.packed.proofs.lay_one.Reads as lay-one-reads
 
 abbrev Inv-loop : tie.InvT-loop
-Inv-loop lists₀ s n e k t₀ lists t = Turned (λ i m. wr m (e + i) (rd n TMP s i)) lists₀ t lists × (length lists ≡ length lists₀) × (t ≤ k)
+Inv-loop lists₀ s n e k t₀ lists t = Turned (λ i. laidOne n (e + i) (rd n TMP s i)) lists₀ t lists × (length lists ≡ length lists₀) × Rows n lists × (t ≤ k)
 
 abbrev μ-loop : tie.MeasureT-loop
 μ-loop lists₀ s n e k t₀ lists t = k - t

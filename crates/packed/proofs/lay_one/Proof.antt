@@ -1,27 +1,31 @@
-use Rattle.packed.proofs.Steps.{lay-step}
+use Rattle.packed.proofs.Steps.{lay-yes, lay-no}
 use borrow.Author.Needs.{needs}
 use Rattle.packed.proofs.lay_one.Statement.{statement}
 use Rattle.packed.proofs.lay_one.Tie as tie
 use Rattle.packed.proofs.lay_one.Reads as reads
 use Rattle.packed.proofs.lay_one.Lts as lts
-use Rattle.cells.proofs.poke.Reads as poke-reads
+use Rattle.cells.proofs.poke_row.Reads as poke-row-reads
 use Rattle.cells.proofs.tab.Reads as tab-reads
 
--- src/lib.rt:127:9
+-- src/lib.rt:137:9
 tab-requires : tie.Need-tab-requires
 tab-requires c κs = search needs
 
--- src/lib.rt:128:5
-poke-requires : tie.Need-poke-requires
-poke-requires c κs = search needs
+-- src/lib.rt:139:9
+poke-row-requires : tie.Need-poke-row-requires
+poke-row-requires c κs = search needs
 
--- src/lib.rt:123:1
+-- src/lib.rt:133:1
 same-length : tie.Need-same-length
 same-length c = search needs
 
--- src/lib.rt:123:1
+-- src/lib.rt:133:1
 returns : tie.Need-returns
-returns c = search (needs, lay-step)
+returns c = search (needs, lay-yes)
+
+-- src/lib.rt:133:1
+returns-2 : tie.Need-returns-2
+returns-2 c = search (needs, lay-no)
 
 pub lay-one-spec : {M : Type 1} → statement M
-lay-one-spec = tie.close (tie.spec tab-requires poke-requires same-length returns)
+lay-one-spec = tie.close (tie.spec tab-requires poke-row-requires same-length returns returns-2)

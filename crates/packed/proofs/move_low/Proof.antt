@@ -2,6 +2,7 @@ use borrow.Author.Needs.{needs}
 use mathlib.Core.Path.{_≡_}
 use Prim.Native.Nat.{_≤_, _<_, _-_, _^_}
 use lib.ListN.{length}
+use Rattle.cells.specs.Rows.{Rows}
 use Rattle.cells.specs.View.{Room}
 use Rattle.packed.specs.Model.{heap, movedOne, movedLow}
 use Rattle.plain.specs.Turns.{Turned}
@@ -13,7 +14,7 @@ use Rattle.packed.proofs.move_low.Lts as lts
 use Rattle.packed.proofs.move_one.Reads as move-one-reads
 
 abbrev Inv-loop : tie.InvT-loop
-Inv-loop lists₀ s₀ n top start end₀ j₀ lists s end j = Turned (movedOne n top) (heap lists₀ s₀ start) j (heap lists s end) × (length lists ≡ length lists₀) × (length s ≡ length s₀) × Room n s × (end < 2 ^ 63) × (j ≤ n)
+Inv-loop lists₀ s₀ n top start end₀ j₀ lists s end j = Turned (movedOne n top) (heap lists₀ s₀ start) j (heap lists s end) × (length lists ≡ length lists₀) × (length s ≡ length s₀) × Room n s × Rows n lists × (end < 2 ^ 63) × (j ≤ n)
 
 abbrev μ-loop : tie.MeasureT-loop
 μ-loop lists₀ s₀ n top start end₀ j₀ lists s end j = n - j

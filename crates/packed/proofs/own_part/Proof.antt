@@ -6,19 +6,19 @@ use Rattle.packed.proofs.own_part.Reads as reads
 use Rattle.packed.proofs.own_part.Lts as lts
 use Rattle.cells.proofs.less.Reads as less-reads
 use Rattle.cells.proofs.plus.Reads as plus-reads
-use Rattle.cells.proofs.rd.Reads as rd-reads
+use Rattle.cells.proofs.get.Reads as get-reads
 
 -- src/lib.rt:279:9
-rd-requires : tie.Need-rd-requires
-rd-requires c κs = search needs
+get-requires : tie.Need-get-requires
+get-requires c κs = search needs
 
 -- src/lib.rt:280:9
-rd-requires-2 : tie.Need-rd-requires-2
-rd-requires-2 c κs = search needs
+get-requires-2 : tie.Need-get-requires-2
+get-requires-2 c κs = search needs
 
 -- src/lib.rt:281:9
-rd-requires-3 : tie.Need-rd-requires-3
-rd-requires-3 c κs = search needs
+get-requires-3 : tie.Need-get-requires-3
+get-requires-3 c κs = search needs
 
 -- src/lib.rt:282:9
 plus-requires : tie.Need-plus-requires
@@ -35,4 +35,4 @@ returns c = search (needs, own-step)
 pub own-part-spec : {M : Type 1} → statement M
 own-part-spec =
     tie.close
-    (tie.spec rd-requires rd-requires-2 rd-requires-3 plus-requires less-requires returns)
+    (tie.spec get-requires get-requires-2 get-requires-3 plus-requires less-requires returns)

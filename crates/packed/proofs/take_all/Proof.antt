@@ -4,18 +4,18 @@ use Rattle.packed.proofs.take_all.Statement.{statement}
 use Rattle.packed.proofs.take_all.Tie as tie
 use Rattle.packed.proofs.take_all.Reads as reads
 use Rattle.packed.proofs.take_all.Lts as lts
-use Rattle.cells.proofs.rd.Reads as rd-reads
+use Rattle.cells.proofs.get.Reads as get-reads
 use Rattle.packed.proofs.own_part.Reads as own-part-reads
 use Rattle.packed.proofs.take_elements.Reads as take-elements-reads
 use Rattle.packed.proofs.take_part.Reads as take-part-reads
 
 -- src/lib.rt:292:9
-rd-requires : tie.Need-rd-requires
-rd-requires c κs = search needs
+get-requires : tie.Need-get-requires
+get-requires c κs = search needs
 
 -- src/lib.rt:293:9
-rd-requires-2 : tie.Need-rd-requires-2
-rd-requires-2 c κs = search needs
+get-requires-2 : tie.Need-get-requires-2
+get-requires-2 c κs = search needs
 
 -- src/lib.rt:294:9
 take-elements-requires : tie.Need-take-elements-requires
@@ -41,8 +41,8 @@ pub take-all-spec : {M : Type 1} → statement M
 take-all-spec =
     tie.close
     (tie.spec
-    rd-requires
-    rd-requires-2
+    get-requires
+    get-requires-2
     take-elements-requires
     own-part-requires
     take-part-requires

@@ -4,12 +4,12 @@ use Rattle.packed.proofs.take_at.Statement.{statement}
 use Rattle.packed.proofs.take_at.Tie as tie
 use Rattle.packed.proofs.take_at.Reads as reads
 use Rattle.packed.proofs.take_at.Lts as lts
-use Rattle.cells.proofs.peek.Reads as peek-reads
+use Rattle.cells.proofs.row.Reads as row-reads
 use Rattle.packed.proofs.take_one.Reads as take-one-reads
 
 -- src/lib.rt:211:9
-peek-requires : tie.Need-peek-requires
-peek-requires c κs = search needs
+row-requires : tie.Need-row-requires
+row-requires c κs = search needs
 
 -- src/lib.rt:212:5
 take-one-requires : tie.Need-take-one-requires
@@ -24,4 +24,4 @@ returns : tie.Need-returns
 returns c = search (needs, take-step)
 
 pub take-at-spec : {M : Type 1} → statement M
-take-at-spec = tie.close (tie.spec peek-requires take-one-requires same-length returns)
+take-at-spec = tie.close (tie.spec row-requires take-one-requires same-length returns)

@@ -6,18 +6,18 @@ use Rattle.packed.proofs.take_one.Reads as reads
 use Rattle.packed.proofs.take_one.Lts as lts
 use Rattle.cells.proofs.plus.Reads as plus-reads
 use Rattle.cells.proofs.put.Reads as put-reads
-use Rattle.cells.proofs.rd.Reads as rd-reads
-use Rattle.cells.proofs.up.Reads as up-reads
+use Rattle.cells.proofs.get.Reads as get-reads
+use Rattle.cells.proofs.set.Reads as set-reads
 use Rattle.packed.proofs.count.Reads as count-reads
 use Rattle.packed.proofs.pass.Reads as pass-reads
 
 -- src/lib.rt:195:9
-rd-requires : tie.Need-rd-requires
-rd-requires c κs = search needs
+get-requires : tie.Need-get-requires
+get-requires c κs = search needs
 
 -- src/lib.rt:197:9
-up-requires : tie.Need-up-requires
-up-requires c κs = search needs
+set-requires : tie.Need-set-requires
+set-requires c κs = search needs
 
 -- src/lib.rt:198:9
 put-requires : tie.Need-put-requires
@@ -55,8 +55,8 @@ pub take-one-spec : {M : Type 1} → statement M
 take-one-spec =
     tie.close
     (tie.spec
-    rd-requires
-    up-requires
+    get-requires
+    set-requires
     put-requires
     plus-requires
     count-requires
