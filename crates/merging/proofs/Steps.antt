@@ -18,10 +18,6 @@ use Rattle.merging.specs.Model.{Comparing, Merging, alikeNow, allMarked,
 use Rattle.merging.specs.declared.Tally.{Tally}
 use Rattle.merging.specs.declared.Walk.{Walk}
 
--- a loop over the cells of a part that are there ends
-pub part-done : {A : Type 0} (f : ℕ → A → A) (m : A) (size p k c t : ℕ) (x : A) → c ≡ clipped size p k → Turned f m t x → t ≤ c → c ≤ t → x ≡ times (clipped size p k) f m
-part-done f m size p k c t x e h a b = finish f m t x h (clipped size p k) (omega arith) (omega arith)
-
 -- ---- marks
 
 pub mark-step : (l : List ℤ) (n q : ℕ) (s : List ℤ) (flag x : ℕ) (r : List ℤ) → x ≡ at l q → r ≡ up n W s x flag → r ≡ up n W s (at l q) flag

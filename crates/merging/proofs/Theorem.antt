@@ -19,7 +19,7 @@ use Rattle.plain.proofs.Turns.{times-fold}
 use Rattle.plain.specs.Lists.{isNone, keep, member, total}
 use Rattle.plain.specs.Members.{Distinct, In}
 use Rattle.plain.specs.Turns.{entries}
-use Rattle.cells.proofs.Rows.{clipped-all}
+use Rattle.cells.proofs.Rows.{clipped-part}
 use Rattle.cells.specs.Layout.{HHEAD, HNEXT, LEN, MERGES, NV, PE, W}
 use Rattle.cells.specs.Rows.{clipped}
 use Rattle.cells.specs.View.{at, rd}
@@ -64,12 +64,6 @@ module _ (g : Graph) (new : List ℕ) where
       let b = total-ones new in
       let c = total-within (λ x. 1) (newestFirst g new) new (newest-distinct d) d (λ x m. newest-kept x m .0) in
       omega arith
-
--- a part that is there, or is none
-clipped-part : (size p k : ℕ) → (0 < k → p + k ≤ size) → clipped size p k ≡ k
-unfolding clipped
-clipped-part size p zero b = omega arith
-clipped-part size p (suc k) b = clipped-all size p (suc k) (b (omega arith))
 
 -- rows in one order, as a loop and as a fold
 rows-fold : (l : List ℤ) (n from k : ℕ) (m : Merging) → (0 < k → from + k ≤ length l) → mergedRows l n from k m ≡ foldl (λ a x. mergedOf l n k x a) m (entries (at l) from k)

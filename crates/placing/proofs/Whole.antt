@@ -25,12 +25,13 @@ use Rattle.definition.specs.Place.{Placed, placed, asElement}
 use Rattle.facts.proofs.Placing.{element-weights, element-degree-other}
 use Rattle.facts.proofs.Sizes.{sized-asElement}
 use Rattle.facts.specs.Invariant.{Sized}
+use Rattle.cells.proofs.Rows.{clipped-part}
 use Rattle.cells.proofs.Slices.{plus-sum, same?, split}
 use Rattle.cells.specs.Layout.{LEN, WANT, ELEN, DEGREE, W, PE, NEXT, LAST, HEAD, NV, ORD, MERGES}
 use Rattle.cells.specs.Links.{parent}
 use Rattle.cells.specs.View.{at, rd, plus}
 use Rattle.chain.specs.Chained.{Chained}
-use Rattle.packed.proofs.Frame.{ends, len-of}
+use Rattle.packed.proofs.Frame.{ends, inside-space, len-of}
 use Rattle.packed.proofs.Keeping.{kept-part, space-kept}
 use Rattle.packed.proofs.Spaces.{space-lowered, space-same, space-renamed}
 use Rattle.packed.specs.Gather.{Cut, keptPart}
@@ -119,7 +120,9 @@ module _ (n : ℕ) (l s : List ℤ) (g : Graph) (p : ℕ) (new : List ℕ) (cnt 
 
   loop : m1 ≡ foldl (λ x v. placedOne n size left v x) (spot s d) new
   unfolding placedAll
-  loop = times-fold (placedOne n size left) (at l) (rd n PE s p) (rd n LEN s p) (spot s d) ∙ ap (foldl (λ x v. placedOne n size left v x) (spot s d)) rows
+  loop =
+      rw (clipped-part (length l) (rd n PE s p) (rd n LEN s p) (inside-space l (places n s) lim X (h .space .lists) p))
+      (times-fold (placedOne n size left) (at l) (rd n PE s p) (rd n LEN s p) (spot s d) ∙ ap (foldl (λ x v. placedOne n size left v x) (spot s d)) rows)
 
   half : Halfway n p g s m1 q []
   half =

@@ -5,8 +5,10 @@ use mathlib.Core.Bool.{cond}
 use mathlib.Core.List.{List}
 use lib.Dec.{ltb}
 use lib.IntN.{ℤ}
+use lib.ListN.{length}
 use Rattle.plain.specs.Turns.{times}
 use Rattle.cells.specs.Layout.{LEN, WANT, ELEN, DEGREE, W, NV}
+use Rattle.cells.specs.Rows.{clipped}
 use Rattle.cells.specs.View.{at, rd, up, plus}
 use Rattle.cells.specs.Links.{named, hang}
 use Rattle.chain.specs.Model.{pushed}
@@ -37,9 +39,9 @@ placedRow n size left i own m = enlistedAt n i own (degreeOf (rd n DEGREE (m .me
 unfoldable pub placedOne : ℕ → ℕ → ℕ → ℕ → Spot → Spot
 placedOne n size left i m = cond (ltb 0 (rd n NV (m .mem) i)) (placedRow n size left i (rd n NV (m .mem) i) m) m
 
--- the rows in the k cells of the list space from p on
+-- the rows in the k cells of the list space from p on, those that are there
 unfoldable pub placedAll : ℕ → ℕ → ℕ → List ℤ → ℕ → ℕ → Spot → Spot
-placedAll n size left l p k m = times k (λ t x. placedOne n size left (at l (p + t)) x) m
+placedAll n size left l p k m = times (clipped (length l) p k) (λ t x. placedOne n size left (at l (p + t)) x) m
 
 -- ---- the element
 

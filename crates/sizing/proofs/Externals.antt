@@ -34,7 +34,7 @@ use Rattle.cells.specs.View.{at, rd}
 use Rattle.drawn.specs.Drawn.{Within, listOf}
 use Rattle.drawn.specs.Flags.{Flagged}
 use Rattle.sizing.specs.Counters.{shared}
-use Rattle.packed.proofs.Frame.{ends}
+use Rattle.packed.proofs.Frame.{inside-space}
 use Rattle.packed.specs.Places.{places}
 use Rattle.sizing.specs.Model.{sizedAll}
 use Rattle.sizing.specs.Outside.{Outside}
@@ -109,7 +109,7 @@ module _ {n : ℕ} (st : State) (v : Inv n st) (p : ℕ) (pv : Var (st .graph) p
 
   -- a list lies inside the list space
   list-inside : (i : ℕ) → 0 < rd n LEN s i → rd n PE s i + rd n LEN s i ≤ length l
-  list-inside i z = omega (arith, ends l (places n s) lim (upd (listOf g₁) p new) (h .space .lists) i z, h .space .lists .fits)
+  list-inside i z = inside-space l (places n s) lim (upd (listOf g₁) p new) (h .space .lists) i z
 
   listed : Listed n l s (elementsOf g₁) new
   listed i m =

@@ -6,7 +6,7 @@ use Prim.Native.Nat.{_+_, _-_, _≤_}
 use Rattle.cells.specs.View.{Room, at, up}
 use Rattle.cells.specs.Layout.{W}
 use Rattle.merging.specs.Model.{marking}
-use Rattle.merging.proofs.Steps.{part-done}
+use Rattle.cells.proofs.Rows.{clipped-finish}
 use borrow.Author.Needs.{needs}
 use Rattle.merging.proofs.mark_part.Statement.{statement}
 use Rattle.merging.proofs.mark_part.Tie as tie
@@ -47,7 +47,7 @@ same-length c = search needs
 
 returns : tie.Need-returns Inv-loop μ-loop
 unfolding marking
-returns c = search (needs, part-done)
+returns c = search (needs, clipped-finish)
 
 pub mark-part-spec : {M : Type 1} → statement M
 mark-part-spec = tie.close (tie.spec Inv-loop μ-loop clip-requires loop-holds add-mark-one mark-one-requires add-t loop-less loop-again same-length returns)

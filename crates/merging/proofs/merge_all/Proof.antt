@@ -5,7 +5,7 @@ use mathlib.Core.Path.{_≡_}
 use Prim.Native.Nat.{_+_, _-_, _≤_}
 use Rattle.cells.specs.View.{Room}
 use Rattle.merging.specs.Model.{Bounded, merging, mergedRow, mergedRows}
-use Rattle.merging.proofs.Steps.{part-done}
+use Rattle.cells.proofs.Rows.{clipped-finish}
 use borrow.Author.Needs.{needs}
 use Rattle.merging.proofs.merge_all.Statement.{statement}
 use Rattle.merging.proofs.merge_all.Tie as tie
@@ -46,7 +46,7 @@ same-length c = search needs
 
 returns : tie.Need-returns Inv-loop μ-loop
 unfolding mergedRows
-returns c = search (needs, part-done)
+returns c = search (needs, clipped-finish)
 
 pub merge-all-spec : {M : Type 1} → statement M
 merge-all-spec = tie.close (tie.spec Inv-loop μ-loop clip-requires loop-holds add-merge-row merge-row-requires add-i loop-less loop-again same-length returns)

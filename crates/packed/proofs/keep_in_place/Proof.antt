@@ -1,7 +1,7 @@
 use Rattle.packed.specs.Gather.{cut, keptOne, keptPart}
 use Prim.Native.Nat.{_+_, _<_, _≤_, _-_, _^_}
 use Rattle.plain.proofs.Turns.{begin, turn}
-use Rattle.packed.proofs.Steps.{finish-clipped}
+use Rattle.cells.proofs.Rows.{clipped-finish}
 use Rattle.plain.specs.Turns.{Turned}
 use Rattle.cells.specs.Rows.{Rows}
 use lib.ListN.{length}
@@ -59,7 +59,7 @@ same-length c = search needs
 -- src/lib.rt:536:1
 returns : tie.Need-returns Inv-loop μ-loop
 unfolding keptPart
-returns c = search (needs, finish-clipped)
+returns c = search (needs, clipped-finish)
 
 pub keep-in-place-spec : {M : Type 1} → statement M
 keep-in-place-spec =

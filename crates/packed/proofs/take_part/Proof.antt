@@ -2,7 +2,7 @@ use Rattle.packed.specs.Tray.{Small, taking, took, tookPart}
 use Rattle.cells.specs.View.{Room, at}
 use Prim.Native.Nat.{_+_, _≤_, _-_}
 use Rattle.plain.proofs.Turns.{begin, turn}
-use Rattle.packed.proofs.Steps.{finish-clipped}
+use Rattle.cells.proofs.Rows.{clipped-finish}
 use Rattle.plain.specs.Turns.{Turned}
 use lib.ListN.{length}
 use mathlib.Core.Path.{_≡_}
@@ -55,7 +55,7 @@ same-length c = search needs
 -- src/lib.rt:233:1
 returns : tie.Need-returns Inv-loop μ-loop
 unfolding tookPart
-returns c = search (needs, finish-clipped)
+returns c = search (needs, clipped-finish)
 
 pub take-part-spec : {M : Type 1} → statement M
 take-part-spec =

@@ -7,19 +7,15 @@ use Rattle.placing.proofs.finish_element.Lts as lts
 use Rattle.placing.proofs.mark_element.Reads as mark-element-reads
 use Rattle.placing.proofs.seal_element.Reads as seal-element-reads
 
--- src/lib.rt:145:5
 seal-element-requires : tie.Need-seal-element-requires
 seal-element-requires c κs = search needs
 
--- src/lib.rt:146:5
 mark-element-requires : tie.Need-mark-element-requires
 mark-element-requires c κs = search needs
 
--- src/lib.rt:141:1
 same-length : tie.Need-same-length
 same-length c = search needs
 
--- src/lib.rt:141:1
 returns : tie.Need-returns
 returns c = search (needs, finish-step)
 

@@ -6,23 +6,18 @@ use Rattle.placing.proofs.new_degree.Reads as reads
 use Rattle.placing.proofs.new_degree.Lts as lts
 use Rattle.cells.proofs.less.Reads as less-reads
 
--- src/lib.rt:21:34
 add-less : tie.Need-add-less
 add-less c = search needs
 
--- src/lib.rt:21:9
 less-requires : tie.Need-less-requires
 less-requires c κs = search needs
 
--- src/lib.rt:22:9
 less-requires-2 : tie.Need-less-requires-2
 less-requires-2 c κs = search needs
 
--- src/lib.rt:17:1
 returns : tie.Need-returns
 returns c = search (needs, by-element)
 
--- src/lib.rt:17:1
 returns-2 : tie.Need-returns-2
 returns-2 c = search (needs, by-rest)
 

@@ -6,23 +6,18 @@ use Rattle.placing.proofs.restore.Lts as lts
 use Rattle.packed.proofs.keep_in_place.Reads as keep-in-place-reads
 use Rattle.placing.proofs.restore_all.Reads as restore-all-reads
 
--- src/lib.rt:107:9
 restore-all-requires : tie.Need-restore-all-requires
 restore-all-requires c κs = search needs
 
--- src/lib.rt:108:9
 keep-in-place-requires : tie.Need-keep-in-place-requires
 keep-in-place-requires c κs = search needs
 
--- src/lib.rt:94:1
 same-length : tie.Need-same-length
 same-length c = search needs
 
--- src/lib.rt:94:1
 same-length-2 : tie.Need-same-length-2
 same-length-2 c = search needs
 
--- src/lib.rt:94:1
 returns : tie.Need-returns
 returns c = search needs
 

@@ -1,6 +1,7 @@
 use Rattle.placing.specs.Model.{spot, placedOne, placedAll}
 use Prim.Native.Nat.{_+_, _<_, _≤_, _-_, _^_}
-use Rattle.plain.proofs.Turns.{begin, turn, finish}
+use Rattle.plain.proofs.Turns.{begin, turn}
+use Rattle.cells.proofs.Rows.{clipped-finish}
 use Rattle.plain.specs.Turns.{Turned}
 use Rattle.cells.specs.View.{Room, at}
 use lib.ListN.{length}
@@ -10,46 +11,42 @@ use Rattle.placing.proofs.restore_all.Statement.{statement}
 use Rattle.placing.proofs.restore_all.Tie as tie
 use Rattle.placing.proofs.restore_all.Reads as reads
 use Rattle.placing.proofs.restore_all.Lts as lts
+use Rattle.cells.proofs.clip.Reads as clip-reads
 use Rattle.placing.proofs.restore_one.Reads as restore-one-reads
 
 abbrev Inv-loop : tie.InvT-loop
-Inv-loop lists s₀ n size left from k start least₀ t₀ s least t = Turned (λ j m. placedOne n size left (at lists (from + j)) m) (spot s₀ start) t (spot s least) × (length s ≡ length s₀) × Room n s × (least < 2 ^ 63) × (t ≤ k)
+Inv-loop lists s₀ n size left from k start least₀ there t₀ s least t = Turned (λ j m. placedOne n size left (at lists (from + j)) m) (spot s₀ start) t (spot s least) × (length s ≡ length s₀) × Room n s × (least < 2 ^ 63) × (t ≤ there)
 
 abbrev μ-loop : tie.MeasureT-loop
-μ-loop lists s₀ n size left from k start least₀ t₀ s least t = k - t
+μ-loop lists s₀ n size left from k start least₀ there t₀ s least t = there - t
 
--- src/lib.rt:87:5
+clip-requires : tie.Need-clip-requires Inv-loop μ-loop
+clip-requires c κs = search needs
+
 loop-holds : tie.Need-loop-holds Inv-loop μ-loop
 loop-holds c = search (needs, begin)
 
--- src/lib.rt:88:54
 add-restore-one : tie.Need-add-restore-one Inv-loop μ-loop
 add-restore-one c = search needs
 
--- src/lib.rt:88:9
 restore-one-requires : tie.Need-restore-one-requires Inv-loop μ-loop
 restore-one-requires c κs = search needs
 
--- src/lib.rt:87:9
 add-t : tie.Need-add-t Inv-loop μ-loop
 add-t c = search needs
 
--- src/lib.rt:87:5
 loop-less : tie.Need-loop-less Inv-loop μ-loop
 loop-less c = search needs
 
--- src/lib.rt:87:5
 loop-again : tie.Need-loop-again Inv-loop μ-loop
 loop-again c = search (needs, turn)
 
--- src/lib.rt:73:1
 same-length : tie.Need-same-length Inv-loop μ-loop
 same-length c = search needs
 
--- src/lib.rt:73:1
 returns : tie.Need-returns Inv-loop μ-loop
 unfolding placedAll
-returns c = search (needs, finish)
+returns c = search (needs, clipped-finish)
 
 pub restore-all-spec : {M : Type 1} → statement M
 restore-all-spec =
@@ -57,6 +54,7 @@ restore-all-spec =
     (tie.spec
     Inv-loop
     μ-loop
+    clip-requires
     loop-holds
     add-restore-one
     restore-one-requires
