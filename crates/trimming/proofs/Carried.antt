@@ -18,11 +18,13 @@ use Rattle.plain.specs.Turns.{entries}
 use Rattle.cells.proofs.Slices.{split}
 use Rattle.cells.specs.Layout.{LEN, MERGES, PE}
 use Rattle.cells.specs.View.{at, rd}
+use Rattle.packed.proofs.Frame.{ends}
 use Rattle.packed.proofs.Spaces.{space-renamed}
-use Rattle.packed.specs.Places.{Space}
+use Rattle.packed.specs.Places.{Space, places}
 use Rattle.trimming.specs.Model.{Trimming, trimming, updatedAll, updatedAt}
 use Rattle.trimming.proofs.Done.{Done, kept}
 use Rattle.trimming.proofs.Due.{Due, listsAfter, safe}
+use Rattle.trimming.proofs.Filtering.{clipped-whole}
 use Rattle.trimming.proofs.Leaving.{done-goes}
 use Rattle.trimming.proofs.Rowwise.{Fine}
 use Rattle.trimming.proofs.Staying.{done-stays}
@@ -37,6 +39,10 @@ module _ (n me flag : ℕ) (aggressive : Bool) (X : ℕ → List ℕ) (l s : Lis
 
   abbrev done : ℕ → List ℕ
   done t = entries (at l) (rd n PE s me) t
+
+  -- the list of the new element lies in the list space
+  inside : 0 < len → from + len ≤ length l
+  inside z = omega (arith, ends l (places n s) lim X (g .lists) me z, g .lists .fits)
 
   module _ (fine : (i : ℕ) → In i (done len) → Fine n me flag aggressive X s i (E i) (U i))
       (once : (t : ℕ) → t < len → member (at l (from + t)) (done t) ≡ false)
@@ -121,4 +127,5 @@ module _ (n me flag : ℕ) (aggressive : Bool) (X : ℕ → List ℕ) (l s : Lis
         (updatedAll n me flag aggressive (rd n PE s me) (rd n LEN s me) made l s)
     unfolding updatedAll
     rows-done =
-        times-keeps Along (λ j. updatedAt n me flag aggressive (from + j)) len (λ t m b h. turn t m b h) len (trimming l s (record { weight = 0; made = made })) (omega arith) begun
+        rw (clipped-whole (length l) from len inside)
+        (times-keeps Along (λ j. updatedAt n me flag aggressive (from + j)) len (λ t m b h. turn t m b h) len (trimming l s (record { weight = 0; made = made })) (omega arith) begun)

@@ -22,7 +22,7 @@ use Rattle.cells.specs.Layout.{W}
 use Rattle.cells.specs.View.{at, rd, wr}
 use Rattle.packed.specs.Places.{Space}
 use Rattle.trimming.specs.Model.{Keeping, absorbed, counted, keeping, keptElement, keptElements, keptEntry, keptLive, nothing, swallows}
-use Rattle.trimming.proofs.Filtering.{Left, keep-no-more, keep-one-more, left-more, left-same}
+use Rattle.trimming.proofs.Filtering.{Left, clipped-whole, keep-no-more, keep-one-more, left-more, left-same}
 use Rattle.trimming.proofs.Freeing.{Freed, freed-again, freed-more, freed-none}
 use Rattle.trimming.proofs.Steps.{element-no, element-yes, live-no, live-yes}
 
@@ -157,4 +157,5 @@ module _ (n me flag : ℕ) (aggressive : Bool) (X : ℕ → List ℕ) (l s : Lis
   -- THE elements of a row
   pub elements-sifted : Sifted len (keptElements n me flag aggressive p len l s)
   unfolding keptElements
-  elements-sifted = times-keeps Sifted step len (λ t m b h. turn t m b h) len (keeping l s nothing) (omega arith) begun
+  elements-sifted =
+      rw (clipped-whole (length l) p len fits) (times-keeps Sifted step len (λ t m b h. turn t m b h) len (keeping l s nothing) (omega arith) begun)

@@ -12,9 +12,16 @@ use Rattle.plain.proofs.Entries.{entries-none, entries-same, entries-snoc}
 use Rattle.plain.proofs.Sums.{total-append, total-one}
 use Rattle.plain.specs.Lists.{consIf, itself, keep, total}
 use Rattle.plain.specs.Turns.{entries}
-use Rattle.cells.proofs.Slices.{at-wr-other, at-wr-same, length-wr, plus-sum}
+use Rattle.cells.proofs.Rows.{clipped-all}
+use Rattle.cells.proofs.Slices.{at-wr-other, at-wr-same, length-wr, plus-sum, split}
+use Rattle.cells.specs.Rows.{clipped}
 use Rattle.cells.specs.View.{at, plus, wr}
 use Rattle.trimming.specs.Model.{Keeping, counted, keeping, keptEntry}
+
+-- a part that is there, or has no cell, is read whole
+pub clipped-whole : (size p k : ℕ) → (0 < k → p + k ≤ size) → clipped size p k ≡ k
+unfolding clipped
+clipped-whole size p k h = ⊎-elim (λ z. clipped-all size p k (h z)) (λ z. omega arith) (split 0 k)
 
 pub keep-snoc : (w : ℕ → Bool) (xs : List ℕ) (x : ℕ) → keep w (xs ++ (x ∷ [])) ≡ keep w xs ++ consIf (w x) x []
 unfolding keep

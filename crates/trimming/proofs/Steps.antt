@@ -1,28 +1,34 @@
 -- The code's steps are the model's: one law for each way out of a function, its premises in the words of what was called.
 -- Assumes nothing.
 use Prim.Native.Nat.{_+_, _-_, _%_, _^_, _<_, _≤_, ℕ}
-use native.Mathlib.Nat.{lt-of-le-of-lt, mod-le}
+use native.Mathlib.Omega.{arith}
+use native.Mathlib.Nat.{lt-of-le-of-lt, mod-le, mod-lt}
 use mathlib.Core.Bool.{Bool, true, false, _&&_}
 use mathlib.Core.List.{List}
 use mathlib.Core.Path.{_≡_, ap, sym, refl, _∙_}
 use borrow.Author.Tests.{le-ltb, lt-ltb}
 use lib.Dec.{eqb}
 use lib.IntN.{ℤ}
+use lib.ListN.{length}
+use Rattle.plain.proofs.Turns.{finish}
+use Rattle.plain.specs.Turns.{Turned}
+use Rattle.cells.proofs.Slices.{plus-sum}
 use Rattle.cells.specs.Layout.{PE, LEN, WANT, ELEN, DEGREE, W, HHEAD, HNEXT, HKEY, MERGES, NV}
 use Rattle.cells.specs.View.{at, plus, rd, up, wr}
+use Rattle.cells.specs.Rows.{clipped}
 use Rattle.cells.specs.Links.{named, hang}
 use Rattle.packed.specs.Tray.{ownPart}
 use Rattle.packed.specs.declared.Part.{Part}
 use Rattle.trimming.specs.declared.Kept.{Kept}
 use Rattle.trimming.specs.declared.Merged.{Merged}
-use Rattle.trimming.specs.Model.{Keeping, Trimming, absorbed, buried, counted, halfway, keeping, keptAll, keptElement, keptElements, keptEntry, keptLive, keptVariable, keptVariables, keyOf, keyed, lowered, massed, relisted, settled, sized, swallows, tookWeight, trimming, turned, updated, updatedAt}
+use Rattle.trimming.specs.Model.{Keeping, Trimming, absorbed, buried, counted, halfway, keeping, keptAll, keptElement, keptElements, keptEntry, keptLive, keptVariable, keptVariables, keyOf, keyed, lowered, massed, nothing, relisted, settled, sized, swallows, tookWeight, trimming, turned, updated, updatedAll, updatedAt}
 
 -- ---- what is kept
 
-pub count-step : (x size : ℕ) (k : Kept) (c d t : ℕ) → c ≡ plus (k .cnt) 1 → d ≡ plus (k .deg) size → t ≡ plus (k .sum) x
-    → record { elements = k .elements; cnt = c; deg = d; sum = t } ≡ counted x size k
+pub count-step : (x size : ℕ) (k : Kept) (d t : ℕ) → d ≡ plus (k .deg) size → t ≡ plus (k .sum) x → k .cnt < 2 ^ 62
+    → record { elements = k .elements; cnt = k .cnt + 1; deg = d; sum = t } ≡ counted x size k
 unfolding counted
-count-step x size k c d t hc hd ht = rw (hc, hd, ht)
+count-step x size k d t hd ht b = rw (plus-sum (k .cnt) 1 (omega arith), hd, ht)
 
 pub absorb-step : (n me e : ℕ) (s a b r : List ℤ) → a ≡ up n W s e 0 → b ≡ up n LEN a e 0 → r ≡ hang n b e (named n me) → r ≡ absorbed n me e s
 unfolding absorbed
@@ -55,6 +61,21 @@ module _ (n q to : ℕ) (l s : List ℤ) (k : Kept) (v w : ℕ) (hv : v ≡ at l
   pub variable-no : w ≤ 0 → keeping l s k ≡ keptVariable n q to (keeping l s k)
   unfolding keptVariable
   variable-no h = rw (← hv, ← hw, le-ltb 0 w h)
+
+-- all turns are done
+pub elements-end : (n me flag : ℕ) (aggressive : Bool) (p len : ℕ) (l s : List ℤ) (turns t : ℕ) (x : Keeping)
+    → Turned (λ j m. keptElement n me flag aggressive (p + j) (p + m .kept .cnt) m) (keeping l s nothing) t x → turns ≡ clipped (length l) p len → t ≤ turns → turns ≤ t
+    → x ≡ keptElements n me flag aggressive p len l s
+unfolding keptElements
+elements-end n me flag aggressive p len l s turns t x h e a b =
+    rw (← e) (finish (λ j m. keptElement n me flag aggressive (p + j) (p + m .kept .cnt) m) (keeping l s nothing) t x h turns a b)
+
+pub variables-end : (n p from len : ℕ) (l s : List ℤ) (k : Kept) (there turns t : ℕ) (x : Keeping)
+    → Turned (λ j m. keptVariable n (from + j) (p + m .kept .cnt) m) (keeping l s (halfway k)) t x
+    → there ≡ clipped (length l) from len → turns ≡ clipped (length l) (p + k .cnt) there → t ≤ turns → turns ≤ t → x ≡ keptVariables n p from len (keeping l s k)
+unfolding keptVariables
+variables-end n p from len l s k there turns t x h d e a b =
+    rw (← d, ← e) (finish (λ j m. keptVariable n (from + j) (p + m .kept .cnt) m) (keeping l s (halfway k)) t x h turns a b)
 
 pub all-step : (n me flag : ℕ) (aggressive : Bool) (i : ℕ) (l s : List ℤ) (own : Part) (p len : ℕ) (l₁ s₁ : List ℤ) (k : Kept) (x : Keeping)
     → own ≡ ownPart n s i → p ≡ rd n PE s i → len ≡ rd n ELEN s i → keeping l₁ s₁ k ≡ keptElements n me flag aggressive p len l s
@@ -107,9 +128,8 @@ key-yes n sum h = rw (lt-ltb 0 n h)
 pub key-small : (n sum : ℕ) → sum < 2 ^ 63 → sum % n < 2 ^ 63
 key-small n sum h = lt-of-le-of-lt (mod-le sum n) h
 
-pub key-no : (n sum : ℕ) → n ≤ 0 → 0 ≡ keyOf n sum
-unfolding keyOf
-key-no n sum h = rw (le-ltb 0 n h)
+pub key-low : (n sum : ℕ) → 0 < n → sum % n < n
+key-low n sum h = mod-lt sum h
 
 pub put-key-step : (n i key : ℕ) (s : List ℤ) (before : ℕ) (a b r : List ℤ) → before ≡ rd n HHEAD s key → a ≡ up n HNEXT s i before → b ≡ up n HHEAD a key i → r ≡ up n HKEY b i key
     → r ≡ keyed n i key s
@@ -140,6 +160,13 @@ module _ (n me flag : ℕ) (aggressive : Bool) (i : ℕ) (l s : List ℤ) (t : M
 pub at-step : (n me flag : ℕ) (aggressive : Bool) (q i : ℕ) (m x : Trimming) → i ≡ at (m .lists) q → x ≡ updated n me flag aggressive i m → x ≡ updatedAt n me flag aggressive q m
 unfolding updatedAt
 at-step n me flag aggressive q i m x hi hx = rw (← hi) hx
+
+pub rows-end : (n me flag : ℕ) (aggressive : Bool) (from len made : ℕ) (l s : List ℤ) (turns t : ℕ) (x : Trimming)
+    → Turned (λ j. updatedAt n me flag aggressive (from + j)) (trimming l s (record { weight = 0; made = made })) t x → turns ≡ clipped (length l) from len → t ≤ turns → turns ≤ t
+    → x ≡ updatedAll n me flag aggressive from len made l s
+unfolding updatedAll
+rows-end n me flag aggressive from len made l s turns t x h e a b =
+    rw (← e) (finish (λ j. updatedAt n me flag aggressive (from + j)) (trimming l s (record { weight = 0; made = made })) t x h turns a b)
 
 pub swallow-yes : (a : Bool) (w flag : ℕ) → a ≡ true → eqb w flag ≡ (a && eqb w flag)
 swallow-yes a w flag h = rw h

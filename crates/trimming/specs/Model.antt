@@ -5,9 +5,11 @@ use mathlib.Core.Bool.{Bool, cond, _&&_}
 use mathlib.Core.List.{List}
 use lib.Dec.{eqb, ltb}
 use lib.IntN.{ℤ}
+use lib.ListN.{length}
 use Rattle.plain.specs.Turns.{times}
 use Rattle.cells.specs.Layout.{PE, LEN, WANT, ELEN, DEGREE, W, HHEAD, HNEXT, HKEY, MERGES, NV}
 use Rattle.cells.specs.View.{at, plus, rd, up, wr}
+use Rattle.cells.specs.Rows.{clipped}
 use Rattle.cells.specs.Links.{named, hang}
 use Rattle.packed.specs.Tray.{ownPart}
 use Rattle.trimming.specs.declared.Kept.{Kept}
@@ -59,7 +61,7 @@ nothing = record { elements = 0; cnt = 0; deg = 0; sum = 0 }
 
 unfoldable pub keptElements : ℕ → ℕ → ℕ → Bool → ℕ → ℕ → List ℤ → List ℤ → Keeping
 keptElements n me flag aggressive p len l s =
-    times len (λ t m. keptElement n me flag aggressive (p + t) (p + m .kept .cnt) m) (keeping l s nothing)
+    times (clipped (length l) p len) (λ t m. keptElement n me flag aggressive (p + t) (p + m .kept .cnt) m) (keeping l s nothing)
 
 -- the variable in cell q
 unfoldable pub keptVariable : ℕ → ℕ → ℕ → Keeping → Keeping
@@ -70,9 +72,11 @@ keptVariable n q to m =
 abbrev pub halfway : Kept → Kept
 halfway k = record { elements = k .cnt; cnt = k .cnt; deg = k .deg; sum = k .sum }
 
+-- as many as there are cells from `from` on, and behind what is kept
 unfoldable pub keptVariables : ℕ → ℕ → ℕ → ℕ → Keeping → Keeping
 keptVariables n p from len m =
-    times len (λ t m. keptVariable n (from + t) (p + m .kept .cnt) m) (keeping (m .lists) (m .mem) (halfway (m .kept)))
+    times (clipped (length (m .lists)) (p + m .kept .cnt) (clipped (length (m .lists)) from len)) (λ t m. keptVariable n (from + t) (p + m .kept .cnt) m)
+    (keeping (m .lists) (m .mem) (halfway (m .kept)))
 
 -- what row i keeps
 unfoldable pub keptAll : ℕ → ℕ → ℕ → Bool → ℕ → List ℤ → List ℤ → Keeping
@@ -146,4 +150,4 @@ updatedAt n me flag aggressive q m = updated n me flag aggressive (at (m .lists)
 
 unfoldable pub updatedAll : ℕ → ℕ → ℕ → Bool → ℕ → ℕ → ℕ → List ℤ → List ℤ → Trimming
 updatedAll n me flag aggressive from len made l s =
-    times len (λ j. updatedAt n me flag aggressive (from + j)) (trimming l s (record { weight = 0; made = made }))
+    times (clipped (length l) from len) (λ j. updatedAt n me flag aggressive (from + j)) (trimming l s (record { weight = 0; made = made }))

@@ -4,7 +4,9 @@ ghost use mathlib.Core.Path.{_≡_};
 ghost use mathlib.Core.Bool.{_&&_};
 ghost use Prim.Native.Nat.{_+_, _<_, _≤_, _^_};
 ghost use lib.Dec.{eqb};
+ghost use lib.ListN.{length};
 ghost use Rattle.cells.specs.View.{Room, at, wr, rd};
+ghost use Rattle.cells.specs.Rows.{Rows};
 ghost use Rattle.trimming.specs.Model.{Small, counted, absorbed, keeping, keptEntry, keptLive, keptElement, keptElements, keptVariable, keptVariables, keptAll, weighed, tookWeight, buried, massed, turned, sized, lowered, keyOf, keyed, relisted, Few, trimming, updated, updatedAt, updatedAll};
 
 // ---- what is kept
@@ -19,26 +21,25 @@ pub struct Kept {
 
 // `x`, of this size, is kept.
 pub fn count(x: usize, size: usize, k: Kept) -> Kept
-    requires { ⌜ (x < 2 ^ 63) × (size < 2 ^ 63) × Small k ⌝ }
-    ensures { λ r. ⌜ (r ≡ counted x size k) × Small r ⌝ }
+    requires { ⌜ (x < 2 ^ 63) × (size < 2 ^ 63) × (k .cnt < 2 ^ 62) × Small k ⌝ }
+    ensures { λ r. ⌜ (r ≡ counted x size k) × (r .cnt ≤ k .cnt + 1) × Small r ⌝ }
 {
-    let c = cells::plus(k.cnt, 1);
     let d = cells::plus(k.deg, size);
     let t = cells::plus(k.sum, x);
     Kept {
         elements: k.elements,
-        cnt: c,
+        cnt: k.cnt + 1,
         deg: d,
         sum: t,
     }
 }
 
-// `x` goes to cell `to` of the lists, and is counted.
-pub fn keep_entry(lists: &mut [i64], x: usize, to: usize, size: usize, k: Kept) -> Kept
-    requires { ⌜ (x < 2 ^ 63) × (size < 2 ^ 63) × Small k ⌝ }
-    ensures { λ r. ⌜ (now (lists .exit) ≡ wr (now (lists .entry)) to x) × (r ≡ counted x size k) × Small r ⌝ }
+// Row `x` goes to cell `to` of the lists, and is counted. No more are kept than there are cells before `to`, so that their number needs no cap.
+pub fn keep_entry(lists: &mut [i64], n: usize, x: usize, to: usize, size: usize, k: Kept) -> Kept
+    requires { ⌜ Rows n (now lists) × (x < n) × (x < 2 ^ 63) × (to < length (now lists)) × (k .cnt ≤ to) × (size < 2 ^ 63) × Small k ⌝ }
+    ensures { λ r. ⌜ (now (lists .exit) ≡ wr (now (lists .entry)) to x) × Rows n (now (lists .exit)) × (r ≡ counted x size k) × (r .cnt ≤ k .cnt + 1) × Small r ⌝ }
 {
-    cells::poke(lists, to, x);
+    cells::put_row(lists, n, to, x);
     count(x, size, k)
 }
 
@@ -51,11 +52,11 @@ pub fn swallows(w: usize, flag: usize, aggressive: bool) -> bool
 
 // Element `e` becomes a child of `me`.
 pub fn absorb(s: &mut [i64], n: usize, e: usize, me: usize)
-    requires { ⌜ Room n (now s) ⌝ }
+    requires { ⌜ Room n (now s) × (e < n) ⌝ }
     ensures { λ _. ⌜ (now (s .exit) ≡ absorbed n me e (now (s .entry))) × Room n (now (s .exit)) ⌝ }
 {
-    cells::up(s, n, cells::W, e, 0);
-    cells::up(s, n, cells::LEN, e, 0);
+    cells::set(s, n, cells::W, e, 0);
+    cells::set(s, n, cells::LEN, e, 0);
     cells::put_parent(s, n, e, me);
 }
 
@@ -72,15 +73,15 @@ pub fn keep_live(
     aggressive: bool,
     k: Kept,
 ) -> Kept
-    requires { ⌜ Room n (now s) × (e < 2 ^ 63) × (w < 2 ^ 63) × Small k ⌝ }
-    ensures { λ r. ⌜ (keeping (now (lists .exit)) (now (s .exit)) r ≡ keptLive n me flag aggressive e w to (keeping (now (lists .entry)) (now (s .entry)) k)) × Room n (now (s .exit)) × Small r ⌝ }
+    requires { ⌜ Room n (now s) × Rows n (now lists) × (e < n) × (w < 2 ^ 63) × (to < length (now lists)) × (k .cnt ≤ to) × Small k ⌝ }
+    ensures { λ r. ⌜ (keeping (now (lists .exit)) (now (s .exit)) r ≡ keptLive n me flag aggressive e w to (keeping (now (lists .entry)) (now (s .entry)) k)) × Room n (now (s .exit)) × Rows n (now (lists .exit)) × (r .cnt ≤ k .cnt + 1) × Small r ⌝ }
 {
     if swallows(w, flag, aggressive) {
         absorb(s, n, e, me);
         k
     } else {
         let size = cells::less(w, flag);
-        keep_entry(lists, e, to, size, k)
+        keep_entry(lists, n, e, to, size, k)
     }
 }
 
@@ -96,11 +97,11 @@ pub fn keep_element(
     aggressive: bool,
     k: Kept,
 ) -> Kept
-    requires { ⌜ Room n (now s) × Small k ⌝ }
-    ensures { λ r. ⌜ (keeping (now (lists .exit)) (now (s .exit)) r ≡ keptElement n me flag aggressive q to (keeping (now (lists .entry)) (now (s .entry)) k)) × Room n (now (s .exit)) × Small r ⌝ }
+    requires { ⌜ Room n (now s) × Rows n (now lists) × (q < length (now lists)) × (to < length (now lists)) × (k .cnt ≤ to) × Small k ⌝ }
+    ensures { λ r. ⌜ (keeping (now (lists .exit)) (now (s .exit)) r ≡ keptElement n me flag aggressive q to (keeping (now (lists .entry)) (now (s .entry)) k)) × Room n (now (s .exit)) × Rows n (now (lists .exit)) × (r .cnt ≤ k .cnt + 1) × Small r ⌝ }
 {
-    let e = cells::peek(lists, q);
-    let w = cells::rd(s, n, cells::W, e);
+    let e = cells::row(lists, n, q);
+    let w = cells::get(s, n, cells::W, e);
     if 0 < w {
         keep_live(lists, s, n, me, e, w, to, flag, aggressive, k)
     } else {
@@ -119,16 +120,17 @@ pub fn keep_elements(
     flag: usize,
     aggressive: bool,
 ) -> Kept
-    requires { ⌜ Room n (now s) × (p < 2 ^ 63) × (len < 2 ^ 63) ⌝ }
-    ensures { λ r. ⌜ (keeping (now (lists .exit)) (now (s .exit)) r ≡ keptElements n me flag aggressive p len (now (lists .entry)) (now (s .entry))) × Room n (now (s .exit)) × Small r ⌝ }
+    requires { ⌜ Room n (now s) × Rows n (now lists) × (p < 2 ^ 63) × (len < 2 ^ 63) ⌝ }
+    ensures { λ r. ⌜ (keeping (now (lists .exit)) (now (s .exit)) r ≡ keptElements n me flag aggressive p len (now (lists .entry)) (now (s .entry))) × Room n (now (s .exit)) × Rows n (now (lists .exit)) × Small r ⌝ }
 {
+    let turns = cells::clip(lists.len(), p, len);
     let mut k = Kept {
         elements: 0,
         cnt: 0,
         deg: 0,
         sum: 0,
     };
-    for t in 0..len {
+    for t in 0..turns {
         k = keep_element(lists, s, n, me, p + t, p + k.cnt, flag, aggressive, k);
     }
     k
@@ -136,19 +138,19 @@ pub fn keep_elements(
 
 // The variable in cell `q`: kept if it is wanted.
 pub fn keep_variable(lists: &mut [i64], s: &[i64], n: usize, q: usize, to: usize, k: Kept) -> Kept
-    requires { ⌜ Room n (now s) × Small k ⌝ }
-    ensures { λ r. ⌜ (keeping (now (lists .exit)) (now (s .entry)) r ≡ keptVariable n q to (keeping (now (lists .entry)) (now (s .entry)) k)) × Small r ⌝ }
+    requires { ⌜ Room n (now s) × Rows n (now lists) × (q < length (now lists)) × (to < length (now lists)) × (k .cnt ≤ to) × Small k ⌝ }
+    ensures { λ r. ⌜ (keeping (now (lists .exit)) (now (s .entry)) r ≡ keptVariable n q to (keeping (now (lists .entry)) (now (s .entry)) k)) × Rows n (now (lists .exit)) × (r .cnt ≤ k .cnt + 1) × Small r ⌝ }
 {
-    let v = cells::peek(lists, q);
-    let w = cells::rd(s, n, cells::WANT, v);
+    let v = cells::row(lists, n, q);
+    let w = cells::get(s, n, cells::WANT, v);
     if 0 < w {
-        keep_entry(lists, v, to, w, k)
+        keep_entry(lists, n, v, to, w, k)
     } else {
         k
     }
 }
 
-// The `len` variables from `from` on: those that are kept move to behind what is kept from `p` on.
+// The `len` variables from `from` on: those that are kept move to behind what is kept from `p` on. That there are cells to move them to is asked once, too.
 pub fn keep_variables(
     lists: &mut [i64],
     s: &[i64],
@@ -158,16 +160,18 @@ pub fn keep_variables(
     len: usize,
     start: Kept,
 ) -> Kept
-    requires { ⌜ Room n (now s) × (p < 2 ^ 63) × (from < 2 ^ 63) × (len < 2 ^ 63) × Small start ⌝ }
-    ensures { λ r. ⌜ (keeping (now (lists .exit)) (now (s .entry)) r ≡ keptVariables n p from len (keeping (now (lists .entry)) (now (s .entry)) start)) × Small r ⌝ }
+    requires { ⌜ Room n (now s) × Rows n (now lists) × (p < 2 ^ 63) × (from < 2 ^ 63) × (len < 2 ^ 63) × Small start ⌝ }
+    ensures { λ r. ⌜ (keeping (now (lists .exit)) (now (s .entry)) r ≡ keptVariables n p from len (keeping (now (lists .entry)) (now (s .entry)) start)) × Rows n (now (lists .exit)) × Small r ⌝ }
 {
+    let there = cells::clip(lists.len(), from, len);
+    let turns = cells::clip(lists.len(), p + start.cnt, there);
     let mut k = Kept {
         elements: start.cnt,
         cnt: start.cnt,
         deg: start.deg,
         sum: start.sum,
     };
-    for t in 0..len {
+    for t in 0..turns {
         k = keep_variable(lists, s, n, from + t, p + k.cnt, k);
     }
     k
@@ -183,12 +187,12 @@ pub fn keep_all(
     flag: usize,
     aggressive: bool,
 ) -> Kept
-    requires { ⌜ Room n (now s) ⌝ }
-    ensures { λ r. ⌜ (keeping (now (lists .exit)) (now (s .exit)) r ≡ keptAll n me flag aggressive i (now (lists .entry)) (now (s .entry))) × Room n (now (s .exit)) × Small r ⌝ }
+    requires { ⌜ Room n (now s) × Rows n (now lists) × (i < n) ⌝ }
+    ensures { λ r. ⌜ (keeping (now (lists .exit)) (now (s .exit)) r ≡ keptAll n me flag aggressive i (now (lists .entry)) (now (s .entry))) × Room n (now (s .exit)) × Rows n (now (lists .exit)) × Small r ⌝ }
 {
     let own = packed::own_part(s, n, i);
-    let p = cells::rd(s, n, cells::PE, i);
-    let k = cells::rd(s, n, cells::ELEN, i);
+    let p = cells::get(s, n, cells::PE, i);
+    let k = cells::get(s, n, cells::ELEN, i);
     let first = keep_elements(lists, s, n, me, p, k, flag, aggressive);
     keep_variables(lists, s, n, p, own.from, own.len, first)
 }
@@ -197,23 +201,23 @@ pub fn keep_all(
 
 // The weight of `i` goes to `me`. It is the result.
 pub fn take_weight(s: &mut [i64], n: usize, me: usize, i: usize) -> usize
-    requires { ⌜ Room n (now s) ⌝ }
+    requires { ⌜ Room n (now s) × (me < n) × (i < n) ⌝ }
     ensures { λ r. ⌜ (r ≡ weighed n i (now (s .entry))) × (now (s .exit) ≡ tookWeight n me i (now (s .entry))) × Room n (now (s .exit)) × (r < 2 ^ 63) ⌝ }
 {
-    let w = cells::tab(s, n, cells::NV, i);
-    let old = cells::tab(s, n, cells::NV, me);
+    let w = cells::look(s, n, cells::NV, i);
+    let old = cells::look(s, n, cells::NV, me);
     let new = cells::plus(old, w);
-    cells::put(s, n, cells::NV, me, new);
-    cells::put(s, n, cells::NV, i, 0);
+    cells::note(s, n, cells::NV, me, new);
+    cells::note(s, n, cells::NV, i, 0);
     w
 }
 
 // Row `i` has no list, is a child of `me`, and the `made`-th of the log.
 pub fn bury(s: &mut [i64], n: usize, me: usize, i: usize, made: usize)
-    requires { ⌜ Room n (now s) × (i < 2 ^ 63) ⌝ }
+    requires { ⌜ Room n (now s) × (i < n) ⌝ }
     ensures { λ _. ⌜ (now (s .exit) ≡ buried n me i made (now (s .entry))) × Room n (now (s .exit)) ⌝ }
 {
-    cells::up(s, n, cells::LEN, i, 0);
+    cells::set(s, n, cells::LEN, i, 0);
     cells::put_parent(s, n, i, me);
     cells::put(s, n, cells::MERGES, made, i);
 }
@@ -226,7 +230,7 @@ pub struct Merged {
 
 // Row `i` is eliminated with the pivot.
 pub fn mass_eliminate(s: &mut [i64], n: usize, me: usize, i: usize, t: Merged) -> Merged
-    requires { ⌜ Room n (now s) × (i < 2 ^ 63) × Few t ⌝ }
+    requires { ⌜ Room n (now s) × (me < n) × (i < n) × Few t ⌝ }
     ensures { λ r. ⌜ (r ≡ massed n i (now (s .entry)) t) × (now (s .exit) ≡ buried n me i (t .made) (tookWeight n me i (now (s .entry)))) × Room n (now (s .exit)) × Few r ⌝ }
 {
     let w = take_weight(s, n, me, i);
@@ -242,63 +246,63 @@ pub fn mass_eliminate(s: &mut [i64], n: usize, me: usize, i: usize, t: Merged) -
 // ---- the list of a row that stays
 
 // Of the `cnt` numbers from `p` on the first goes to place `elements`, the one there to the end, and `me` to the front.
-pub fn turn_list(lists: &mut [i64], me: usize, p: usize, elements: usize, cnt: usize)
-    requires { ⌜ (me < 2 ^ 63) × (p < 2 ^ 63) × (elements < 2 ^ 63) × (cnt < 2 ^ 63) ⌝ }
-    ensures { λ _. ⌜ now (lists .exit) ≡ turned me p elements cnt (now (lists .entry)) ⌝ }
+pub fn turn_list(lists: &mut [i64], n: usize, me: usize, p: usize, elements: usize, cnt: usize)
+    requires { ⌜ Rows n (now lists) × (me < n) × (me < 2 ^ 63) × (p < 2 ^ 63) × (elements < 2 ^ 63) × (cnt < 2 ^ 63) ⌝ }
+    ensures { λ _. ⌜ (now (lists .exit) ≡ turned me p elements cnt (now (lists .entry))) × Rows n (now (lists .exit)) ⌝ }
 {
-    cells::copy_cell(lists, p + elements, p + cnt);
-    cells::copy_cell(lists, p, p + elements);
-    cells::poke(lists, p, me);
+    cells::copy_row(lists, n, p + elements, p + cnt);
+    cells::copy_row(lists, n, p, p + elements);
+    cells::poke_row(lists, n, p, me);
 }
 
 // The counts of row `i`, with `me` in its list.
 pub fn finish_list(s: &mut [i64], n: usize, i: usize, elements: usize, cnt: usize)
-    requires { ⌜ Room n (now s) × (elements < 2 ^ 63) × (cnt < 2 ^ 63) ⌝ }
+    requires { ⌜ Room n (now s) × (i < n) × (elements < 2 ^ 63) × (cnt < 2 ^ 63) ⌝ }
     ensures { λ _. ⌜ (now (s .exit) ≡ sized n i elements cnt (now (s .entry))) × Room n (now (s .exit)) ⌝ }
 {
     let a = cells::plus(elements, 1);
     let b = cells::plus(cnt, 1);
-    cells::up(s, n, cells::ELEN, i, a);
-    cells::up(s, n, cells::LEN, i, b);
+    cells::set(s, n, cells::ELEN, i, a);
+    cells::set(s, n, cells::LEN, i, b);
 }
 
 // The degree without the new element: the smaller of the old and `deg`.
 pub fn lower_degree(s: &mut [i64], n: usize, i: usize, deg: usize)
-    requires { ⌜ Room n (now s) × (deg < 2 ^ 63) ⌝ }
+    requires { ⌜ Room n (now s) × (i < n) × (deg < 2 ^ 63) ⌝ }
     ensures { λ _. ⌜ (now (s .exit) ≡ lowered n i deg (now (s .entry))) × Room n (now (s .exit)) ⌝ }
 {
-    let old = cells::rd(s, n, cells::DEGREE, i);
+    let old = cells::get(s, n, cells::DEGREE, i);
     if deg < old {
-        cells::up(s, n, cells::DEGREE, i, deg);
+        cells::set(s, n, cells::DEGREE, i, deg);
     }
 }
 
 // The key of a sum.
 pub fn key_of(n: usize, sum: usize) -> usize
-    requires { ⌜ sum < 2 ^ 63 ⌝ }
-    ensures { λ r. ⌜ (r ≡ keyOf n sum) × (r < 2 ^ 63) ⌝ }
+    requires { ⌜ (0 < n) × (sum < 2 ^ 63) ⌝ }
+    ensures { λ r. ⌜ (r ≡ keyOf n sum) × (r < n) × (r < 2 ^ 63) ⌝ }
 {
-    if 0 < n { sum % n } else { 0 }
+    sum % n
 }
 
 // Row `i` is the newest of its key.
 pub fn put_key(s: &mut [i64], n: usize, i: usize, key: usize)
-    requires { ⌜ Room n (now s) × (i < 2 ^ 63) × (key < 2 ^ 63) ⌝ }
+    requires { ⌜ Room n (now s) × (i < n) × (key < n) ⌝ }
     ensures { λ _. ⌜ (now (s .exit) ≡ keyed n i key (now (s .entry))) × Room n (now (s .exit)) ⌝ }
 {
-    let before = cells::tab(s, n, cells::HHEAD, key);
-    cells::put(s, n, cells::HNEXT, i, before);
-    cells::put(s, n, cells::HHEAD, key, i);
-    cells::put(s, n, cells::HKEY, i, key);
+    let before = cells::look(s, n, cells::HHEAD, key);
+    cells::note(s, n, cells::HNEXT, i, before);
+    cells::note(s, n, cells::HHEAD, key, i);
+    cells::note(s, n, cells::HKEY, i, key);
 }
 
 // Row `i`, which has moved to the front of its place what it keeps, gets its list, its degree and its bucket.
 pub fn relist(lists: &mut [i64], s: &mut [i64], n: usize, me: usize, i: usize, k: Kept)
-    requires { ⌜ Room n (now s) × (me < 2 ^ 63) × (i < 2 ^ 63) × Small k ⌝ }
-    ensures { λ _. ⌜ (now (lists .exit) ≡ turned me (rd n 0 (now (s .entry)) i) (k .elements) (k .cnt) (now (lists .entry))) × (now (s .exit) ≡ relisted n i k (now (s .entry))) × Room n (now (s .exit)) ⌝ }
+    requires { ⌜ Room n (now s) × Rows n (now lists) × (me < n) × (i < n) × Small k ⌝ }
+    ensures { λ _. ⌜ (now (lists .exit) ≡ turned me (rd n 0 (now (s .entry)) i) (k .elements) (k .cnt) (now (lists .entry))) × (now (s .exit) ≡ relisted n i k (now (s .entry))) × Room n (now (s .exit)) × Rows n (now (lists .exit)) ⌝ }
 {
-    let p = cells::rd(s, n, cells::PE, i);
-    turn_list(lists, me, p, k.elements, k.cnt);
+    let p = cells::get(s, n, cells::PE, i);
+    turn_list(lists, n, me, p, k.elements, k.cnt);
     finish_list(s, n, i, k.elements, k.cnt);
     lower_degree(s, n, i, k.deg);
     let key = key_of(n, k.sum);
@@ -318,8 +322,8 @@ pub fn update_variable(
     aggressive: bool,
     t: Merged,
 ) -> Merged
-    requires { ⌜ Room n (now s) × (me < 2 ^ 63) × (i < 2 ^ 63) × Few t ⌝ }
-    ensures { λ r. ⌜ (trimming (now (lists .exit)) (now (s .exit)) r ≡ updated n me flag aggressive i (trimming (now (lists .entry)) (now (s .entry)) t)) × Room n (now (s .exit)) × Few r ⌝ }
+    requires { ⌜ Room n (now s) × Rows n (now lists) × (me < n) × (i < n) × Few t ⌝ }
+    ensures { λ r. ⌜ (trimming (now (lists .exit)) (now (s .exit)) r ≡ updated n me flag aggressive i (trimming (now (lists .entry)) (now (s .entry)) t)) × Room n (now (s .exit)) × Rows n (now (lists .exit)) × Few r ⌝ }
 {
     let k = keep_all(lists, s, n, me, i, flag, aggressive);
     if 0 < k.cnt {
@@ -341,10 +345,10 @@ pub fn update_at(
     aggressive: bool,
     t: Merged,
 ) -> Merged
-    requires { ⌜ Room n (now s) × (me < 2 ^ 63) × Few t ⌝ }
-    ensures { λ r. ⌜ (trimming (now (lists .exit)) (now (s .exit)) r ≡ updatedAt n me flag aggressive q (trimming (now (lists .entry)) (now (s .entry)) t)) × Room n (now (s .exit)) × Few r ⌝ }
+    requires { ⌜ Room n (now s) × Rows n (now lists) × (me < n) × (q < length (now lists)) × Few t ⌝ }
+    ensures { λ r. ⌜ (trimming (now (lists .exit)) (now (s .exit)) r ≡ updatedAt n me flag aggressive q (trimming (now (lists .entry)) (now (s .entry)) t)) × Room n (now (s .exit)) × Rows n (now (lists .exit)) × Few r ⌝ }
 {
-    let i = cells::peek(lists, q);
+    let i = cells::row(lists, n, q);
     update_variable(lists, s, n, me, i, flag, aggressive, t)
 }
 
@@ -360,14 +364,15 @@ pub fn update_all(
     aggressive: bool,
     made: usize,
 ) -> Merged
-    requires { ⌜ Room n (now s) × (me < 2 ^ 63) × (from < 2 ^ 63) × (len < 2 ^ 63) × (made < 2 ^ 63) ⌝ }
-    ensures { λ r. ⌜ (trimming (now (lists .exit)) (now (s .exit)) r ≡ updatedAll n me flag aggressive from len made (now (lists .entry)) (now (s .entry))) × Room n (now (s .exit)) × Few r ⌝ }
+    requires { ⌜ Room n (now s) × Rows n (now lists) × (me < n) × (from < 2 ^ 63) × (len < 2 ^ 63) × (made < 2 ^ 63) ⌝ }
+    ensures { λ r. ⌜ (trimming (now (lists .exit)) (now (s .exit)) r ≡ updatedAll n me flag aggressive from len made (now (lists .entry)) (now (s .entry))) × Room n (now (s .exit)) × Rows n (now (lists .exit)) × Few r ⌝ }
 {
+    let turns = cells::clip(lists.len(), from, len);
     let mut t = Merged {
         weight: 0,
         made: made,
     };
-    for j in 0..len {
+    for j in 0..turns {
         t = update_at(lists, s, n, me, from + j, flag, aggressive, t);
     }
     t

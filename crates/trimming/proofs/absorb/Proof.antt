@@ -5,15 +5,15 @@ use Rattle.trimming.proofs.absorb.Tie as tie
 use Rattle.trimming.proofs.absorb.Reads as reads
 use Rattle.trimming.proofs.absorb.Lts as lts
 use Rattle.cells.proofs.put_parent.Reads as put-parent-reads
-use Rattle.cells.proofs.up.Reads as up-reads
+use Rattle.cells.proofs.set.Reads as set-reads
 
 -- src/lib.rt:57:5
-up-requires : tie.Need-up-requires
-up-requires c κs = search needs
+set-requires : tie.Need-set-requires
+set-requires c κs = search needs
 
 -- src/lib.rt:58:5
-up-requires-2 : tie.Need-up-requires-2
-up-requires-2 c κs = search needs
+set-requires-2 : tie.Need-set-requires-2
+set-requires-2 c κs = search needs
 
 -- src/lib.rt:59:5
 put-parent-requires : tie.Need-put-parent-requires
@@ -27,8 +27,8 @@ same-length c = search needs
 returns : tie.Need-returns
 -- the calls by name, so that a wrong store is refused at once
 returns c =
-    (absorb-step _ _ _ _ _ _ _ (c .before .before .before .before .before .before .before .up .ensures .0) (c .before .before .before .before .up2 .ensures .0) (c .before .put-parent .ensures .0), c .before .put-parent .ensures .1)
+    (absorb-step _ _ _ _ _ _ _ (c .before .before .before .before .before .before .before .set .ensures .0) (c .before .before .before .before .set2 .ensures .0) (c .before .put-parent .ensures .0), c .before .put-parent .ensures .1)
 
 pub absorb-spec : {M : Type 1} → statement M
 absorb-spec =
-    tie.close (tie.spec up-requires up-requires-2 put-parent-requires same-length returns)
+    tie.close (tie.spec set-requires set-requires-2 put-parent-requires same-length returns)

@@ -6,11 +6,11 @@ use Rattle.trimming.proofs.bury.Reads as reads
 use Rattle.trimming.proofs.bury.Lts as lts
 use Rattle.cells.proofs.put.Reads as put-reads
 use Rattle.cells.proofs.put_parent.Reads as put-parent-reads
-use Rattle.cells.proofs.up.Reads as up-reads
+use Rattle.cells.proofs.set.Reads as set-reads
 
 -- src/lib.rt:216:5
-up-requires : tie.Need-up-requires
-up-requires c κs = search needs
+set-requires : tie.Need-set-requires
+set-requires c κs = search needs
 
 -- src/lib.rt:217:5
 put-parent-requires : tie.Need-put-parent-requires
@@ -29,4 +29,4 @@ returns : tie.Need-returns
 returns c = search (needs, bury-step)
 
 pub bury-spec : {M : Type 1} → statement M
-bury-spec = tie.close (tie.spec up-requires put-parent-requires put-requires same-length returns)
+bury-spec = tie.close (tie.spec set-requires put-parent-requires put-requires same-length returns)

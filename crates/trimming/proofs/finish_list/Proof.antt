@@ -5,7 +5,7 @@ use Rattle.trimming.proofs.finish_list.Tie as tie
 use Rattle.trimming.proofs.finish_list.Reads as reads
 use Rattle.trimming.proofs.finish_list.Lts as lts
 use Rattle.cells.proofs.plus.Reads as plus-reads
-use Rattle.cells.proofs.up.Reads as up-reads
+use Rattle.cells.proofs.set.Reads as set-reads
 
 -- src/lib.rt:259:9
 plus-requires : tie.Need-plus-requires
@@ -16,12 +16,12 @@ plus-requires-2 : tie.Need-plus-requires-2
 plus-requires-2 c κs = search needs
 
 -- src/lib.rt:261:5
-up-requires : tie.Need-up-requires
-up-requires c κs = search needs
+set-requires : tie.Need-set-requires
+set-requires c κs = search needs
 
 -- src/lib.rt:262:5
-up-requires-2 : tie.Need-up-requires-2
-up-requires-2 c κs = search needs
+set-requires-2 : tie.Need-set-requires-2
+set-requires-2 c κs = search needs
 
 -- src/lib.rt:255:1
 same-length : tie.Need-same-length
@@ -34,4 +34,4 @@ returns c = search (needs, size-step)
 pub finish-list-spec : {M : Type 1} → statement M
 finish-list-spec =
     tie.close
-    (tie.spec plus-requires plus-requires-2 up-requires up-requires-2 same-length returns)
+    (tie.spec plus-requires plus-requires-2 set-requires set-requires-2 same-length returns)

@@ -4,7 +4,7 @@ use Rattle.trimming.proofs.keep_all.Statement.{statement}
 use Rattle.trimming.proofs.keep_all.Tie as tie
 use Rattle.trimming.proofs.keep_all.Reads as reads
 use Rattle.trimming.proofs.keep_all.Lts as lts
-use Rattle.cells.proofs.rd.Reads as rd-reads
+use Rattle.cells.proofs.get.Reads as get-reads
 use Rattle.packed.proofs.own_part.Reads as own-part-reads
 use Rattle.trimming.proofs.keep_elements.Reads as keep-elements-reads
 use Rattle.trimming.proofs.keep_variables.Reads as keep-variables-reads
@@ -14,12 +14,12 @@ own-part-requires : tie.Need-own-part-requires
 own-part-requires c κs = search needs
 
 -- src/lib.rt:190:9
-rd-requires : tie.Need-rd-requires
-rd-requires c κs = search needs
+get-requires : tie.Need-get-requires
+get-requires c κs = search needs
 
 -- src/lib.rt:191:9
-rd-requires-2 : tie.Need-rd-requires-2
-rd-requires-2 c κs = search needs
+get-requires-2 : tie.Need-get-requires-2
+get-requires-2 c κs = search needs
 
 -- src/lib.rt:192:9
 keep-elements-requires : tie.Need-keep-elements-requires
@@ -46,8 +46,8 @@ keep-all-spec =
     tie.close
     (tie.spec
     own-part-requires
-    rd-requires
-    rd-requires-2
+    get-requires
+    get-requires-2
     keep-elements-requires
     keep-variables-requires
     same-length

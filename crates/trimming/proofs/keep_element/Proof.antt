@@ -4,17 +4,17 @@ use Rattle.trimming.proofs.keep_element.Statement.{statement}
 use Rattle.trimming.proofs.keep_element.Tie as tie
 use Rattle.trimming.proofs.keep_element.Reads as reads
 use Rattle.trimming.proofs.keep_element.Lts as lts
-use Rattle.cells.proofs.peek.Reads as peek-reads
-use Rattle.cells.proofs.rd.Reads as rd-reads
+use Rattle.cells.proofs.row.Reads as row-reads
+use Rattle.cells.proofs.get.Reads as get-reads
 use Rattle.trimming.proofs.keep_live.Reads as keep-live-reads
 
 -- src/lib.rt:102:9
-peek-requires : tie.Need-peek-requires
-peek-requires c κs = search needs
+row-requires : tie.Need-row-requires
+row-requires c κs = search needs
 
 -- src/lib.rt:103:9
-rd-requires : tie.Need-rd-requires
-rd-requires c κs = search needs
+get-requires : tie.Need-get-requires
+get-requires c κs = search needs
 
 -- src/lib.rt:105:9
 keep-live-requires : tie.Need-keep-live-requires
@@ -48,8 +48,8 @@ pub keep-element-spec : {M : Type 1} → statement M
 keep-element-spec =
     tie.close
     (tie.spec
-    peek-requires
-    rd-requires
+    row-requires
+    get-requires
     keep-live-requires
     same-length
     same-length-2

@@ -1,63 +1,70 @@
-use Rattle.trimming.specs.Model.{Small, keeping, keptElement, keptElements, nothing}
-use Rattle.cells.specs.View.{Room}
 use Prim.Native.Nat.{_+_, _≤_, _-_}
-use Rattle.plain.proofs.Turns.{begin, turn, finish}
-use Rattle.plain.specs.Turns.{Turned}
-use lib.ListN.{length}
 use mathlib.Core.Path.{_≡_}
 use borrow.Author.Needs.{needs}
+use lib.ListN.{length}
+use Rattle.plain.proofs.Turns.{begin, turn}
+use Rattle.plain.specs.Turns.{Turned}
+use Rattle.cells.specs.Rows.{Rows}
+use Rattle.cells.specs.View.{Room}
+use Rattle.trimming.specs.Model.{Small, keeping, keptElement, nothing}
+use Rattle.trimming.proofs.Steps.{elements-end}
 use Rattle.trimming.proofs.keep_elements.Statement.{statement}
 use Rattle.trimming.proofs.keep_elements.Tie as tie
 use Rattle.trimming.proofs.keep_elements.Reads as reads
 use Rattle.trimming.proofs.keep_elements.Lts as lts
+use Rattle.cells.proofs.clip.Reads as clip-reads
 use Rattle.trimming.proofs.keep_element.Reads as keep-element-reads
 
 abbrev Inv-loop : tie.InvT-loop
-Inv-loop lists₀ s₀ n me p len flag aggressive k₀ t₀ lists s k t = Turned (λ j m. keptElement n me flag aggressive (p + j) (p + m .kept .cnt) m) (keeping lists₀ s₀ nothing) t (keeping lists s k) × (length lists ≡ length lists₀) × (length s ≡ length s₀) × Room n s × Small k × (t ≤ len)
+Inv-loop lists₀ s₀ n me p len flag aggressive turns k₀ t₀ lists s k t = Turned (λ j m. keptElement n me flag aggressive (p + j) (p + m .kept .cnt) m) (keeping lists₀ s₀ nothing) t (keeping lists s k) × (length lists ≡ length lists₀) × (length s ≡ length s₀) × Room n s × Rows n lists × Small k × (k .cnt ≤ t) × (t ≤ turns)
 
 abbrev μ-loop : tie.MeasureT-loop
-μ-loop lists₀ s₀ n me p len flag aggressive k₀ t₀ lists s k t = len - t
+μ-loop lists₀ s₀ n me p len flag aggressive turns k₀ t₀ lists s k t = turns - t
 
--- src/lib.rt:131:5
+-- src/lib.rt:133:9
+clip-requires : tie.Need-clip-requires Inv-loop μ-loop
+clip-requires c κs = search needs
+
+-- src/lib.rt:140:5
 loop-holds : tie.Need-loop-holds Inv-loop μ-loop
 loop-holds c = search (needs, begin)
 
--- src/lib.rt:132:43
+-- src/lib.rt:141:43
 add-keep-element : tie.Need-add-keep-element Inv-loop μ-loop
 add-keep-element c = search needs
 
--- src/lib.rt:132:50
+-- src/lib.rt:141:50
 add-keep-element-2 : tie.Need-add-keep-element-2 Inv-loop μ-loop
 add-keep-element-2 c = search needs
 
--- src/lib.rt:132:9
+-- src/lib.rt:141:9
 keep-element-requires : tie.Need-keep-element-requires Inv-loop μ-loop
-keep-element-requires c κs = search needs
+-- by parts: the search for all of them at once breaks off
+keep-element-requires c κs = (search needs, search needs, search needs, search needs, search needs, search needs)
 
--- src/lib.rt:131:9
+-- src/lib.rt:140:9
 add-t : tie.Need-add-t Inv-loop μ-loop
 add-t c = search needs
 
--- src/lib.rt:131:5
+-- src/lib.rt:140:5
 loop-less : tie.Need-loop-less Inv-loop μ-loop
 loop-less c = search needs
 
--- src/lib.rt:131:5
+-- src/lib.rt:140:5
 loop-again : tie.Need-loop-again Inv-loop μ-loop
-loop-again c = search (needs, turn)
+loop-again c = (search (needs, turn), search needs, search needs, search needs, search needs, search needs, search needs, search needs)
 
--- src/lib.rt:112:1
+-- src/lib.rt:120:1
 same-length : tie.Need-same-length Inv-loop μ-loop
 same-length c = search needs
 
--- src/lib.rt:112:1
+-- src/lib.rt:120:1
 same-length-2 : tie.Need-same-length-2 Inv-loop μ-loop
 same-length-2 c = search needs
 
--- src/lib.rt:112:1
+-- src/lib.rt:120:1
 returns : tie.Need-returns Inv-loop μ-loop
-unfolding keptElements
-returns c = search (needs, finish)
+returns c = search (needs, elements-end)
 
 pub keep-elements-spec : {M : Type 1} → statement M
 keep-elements-spec =
@@ -65,6 +72,7 @@ keep-elements-spec =
     (tie.spec
     Inv-loop
     μ-loop
+    clip-requires
     loop-holds
     add-keep-element
     add-keep-element-2

@@ -4,17 +4,17 @@ use Rattle.trimming.proofs.keep_variable.Statement.{statement}
 use Rattle.trimming.proofs.keep_variable.Tie as tie
 use Rattle.trimming.proofs.keep_variable.Reads as reads
 use Rattle.trimming.proofs.keep_variable.Lts as lts
-use Rattle.cells.proofs.peek.Reads as peek-reads
-use Rattle.cells.proofs.rd.Reads as rd-reads
+use Rattle.cells.proofs.row.Reads as row-reads
+use Rattle.cells.proofs.get.Reads as get-reads
 use Rattle.trimming.proofs.keep_entry.Reads as keep-entry-reads
 
 -- src/lib.rt:142:9
-peek-requires : tie.Need-peek-requires
-peek-requires c κs = search needs
+row-requires : tie.Need-row-requires
+row-requires c κs = search needs
 
 -- src/lib.rt:143:9
-rd-requires : tie.Need-rd-requires
-rd-requires c κs = search needs
+get-requires : tie.Need-get-requires
+get-requires c κs = search needs
 
 -- src/lib.rt:145:9
 keep-entry-requires : tie.Need-keep-entry-requires
@@ -40,8 +40,8 @@ pub keep-variable-spec : {M : Type 1} → statement M
 keep-variable-spec =
     tie.close
     (tie.spec
-    peek-requires
-    rd-requires
+    row-requires
+    get-requires
     keep-entry-requires
     same-length
     returns

@@ -4,16 +4,16 @@ use Rattle.trimming.proofs.lower_degree.Statement.{statement}
 use Rattle.trimming.proofs.lower_degree.Tie as tie
 use Rattle.trimming.proofs.lower_degree.Reads as reads
 use Rattle.trimming.proofs.lower_degree.Lts as lts
-use Rattle.cells.proofs.rd.Reads as rd-reads
-use Rattle.cells.proofs.up.Reads as up-reads
+use Rattle.cells.proofs.get.Reads as get-reads
+use Rattle.cells.proofs.set.Reads as set-reads
 
 -- src/lib.rt:270:9
-rd-requires : tie.Need-rd-requires
-rd-requires c κs = search needs
+get-requires : tie.Need-get-requires
+get-requires c κs = search needs
 
 -- src/lib.rt:272:9
-up-requires : tie.Need-up-requires
-up-requires c κs = search needs
+set-requires : tie.Need-set-requires
+set-requires c κs = search needs
 
 -- src/lib.rt:266:1
 same-length : tie.Need-same-length
@@ -33,4 +33,4 @@ returns-2 c = search (needs, lower-no)
 
 pub lower-degree-spec : {M : Type 1} → statement M
 lower-degree-spec =
-    tie.close (tie.spec rd-requires up-requires same-length returns same-length-2 returns-2)
+    tie.close (tie.spec get-requires set-requires same-length returns same-length-2 returns-2)

@@ -4,24 +4,24 @@ use Rattle.trimming.proofs.put_key.Statement.{statement}
 use Rattle.trimming.proofs.put_key.Tie as tie
 use Rattle.trimming.proofs.put_key.Reads as reads
 use Rattle.trimming.proofs.put_key.Lts as lts
-use Rattle.cells.proofs.put.Reads as put-reads
-use Rattle.cells.proofs.tab.Reads as tab-reads
+use Rattle.cells.proofs.note.Reads as note-reads
+use Rattle.cells.proofs.look.Reads as look-reads
 
 -- src/lib.rt:289:9
-tab-requires : tie.Need-tab-requires
-tab-requires c κs = search needs
+look-requires : tie.Need-look-requires
+look-requires c κs = search needs
 
 -- src/lib.rt:290:5
-put-requires : tie.Need-put-requires
-put-requires c κs = search needs
+note-requires : tie.Need-note-requires
+note-requires c κs = search needs
 
 -- src/lib.rt:291:5
-put-requires-2 : tie.Need-put-requires-2
-put-requires-2 c κs = search needs
+note-requires-2 : tie.Need-note-requires-2
+note-requires-2 c κs = search needs
 
 -- src/lib.rt:292:5
-put-requires-3 : tie.Need-put-requires-3
-put-requires-3 c κs = search needs
+note-requires-3 : tie.Need-note-requires-3
+note-requires-3 c κs = search needs
 
 -- src/lib.rt:285:1
 same-length : tie.Need-same-length
@@ -34,4 +34,4 @@ returns c = search (needs, put-key-step)
 pub put-key-spec : {M : Type 1} → statement M
 put-key-spec =
     tie.close
-    (tie.spec tab-requires put-requires put-requires-2 put-requires-3 same-length returns)
+    (tie.spec look-requires note-requires note-requires-2 note-requires-3 same-length returns)

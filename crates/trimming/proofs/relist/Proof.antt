@@ -4,7 +4,7 @@ use Rattle.trimming.proofs.relist.Statement.{statement}
 use Rattle.trimming.proofs.relist.Tie as tie
 use Rattle.trimming.proofs.relist.Reads as reads
 use Rattle.trimming.proofs.relist.Lts as lts
-use Rattle.cells.proofs.rd.Reads as rd-reads
+use Rattle.cells.proofs.get.Reads as get-reads
 use Rattle.trimming.proofs.finish_list.Reads as finish-list-reads
 use Rattle.trimming.proofs.key_of.Reads as key-of-reads
 use Rattle.trimming.proofs.lower_degree.Reads as lower-degree-reads
@@ -12,8 +12,8 @@ use Rattle.trimming.proofs.put_key.Reads as put-key-reads
 use Rattle.trimming.proofs.turn_list.Reads as turn-list-reads
 
 -- src/lib.rt:300:9
-rd-requires : tie.Need-rd-requires
-rd-requires c κs = search needs
+get-requires : tie.Need-get-requires
+get-requires c κs = search needs
 
 -- src/lib.rt:301:5
 turn-list-requires : tie.Need-turn-list-requires
@@ -51,7 +51,7 @@ pub relist-spec : {M : Type 1} → statement M
 relist-spec =
     tie.close
     (tie.spec
-    rd-requires
+    get-requires
     turn-list-requires
     finish-list-requires
     lower-degree-requires

@@ -1,59 +1,65 @@
-use Rattle.trimming.specs.Model.{Few, trimming, updatedAll, updatedAt}
-use Rattle.cells.specs.View.{Room}
 use Prim.Native.Nat.{_+_, _≤_, _-_}
-use Rattle.plain.proofs.Turns.{begin, turn, finish}
-use Rattle.plain.specs.Turns.{Turned}
-use lib.ListN.{length}
 use mathlib.Core.Path.{_≡_}
 use borrow.Author.Needs.{needs}
+use lib.ListN.{length}
+use Rattle.plain.proofs.Turns.{begin, turn}
+use Rattle.plain.specs.Turns.{Turned}
+use Rattle.cells.specs.Rows.{Rows}
+use Rattle.cells.specs.View.{Room}
+use Rattle.trimming.specs.Model.{Few, trimming, updatedAt}
+use Rattle.trimming.proofs.Steps.{rows-end}
 use Rattle.trimming.proofs.update_all.Statement.{statement}
 use Rattle.trimming.proofs.update_all.Tie as tie
 use Rattle.trimming.proofs.update_all.Reads as reads
 use Rattle.trimming.proofs.update_all.Lts as lts
+use Rattle.cells.proofs.clip.Reads as clip-reads
 use Rattle.trimming.proofs.update_at.Reads as update-at-reads
 
 abbrev Inv-loop : tie.InvT-loop
-Inv-loop lists₀ s₀ n me from len flag aggressive made t₀ j₀ lists s t j = Turned (λ x. updatedAt n me flag aggressive (from + x)) (trimming lists₀ s₀ (record { weight = 0; made = made })) j (trimming lists s t) × (length lists ≡ length lists₀) × (length s ≡ length s₀) × Room n s × Few t × (j ≤ len)
+Inv-loop lists₀ s₀ n me from len flag aggressive made turns t₀ j₀ lists s t j = Turned (λ x. updatedAt n me flag aggressive (from + x)) (trimming lists₀ s₀ (record { weight = 0; made = made })) j (trimming lists s t) × (length lists ≡ length lists₀) × (length s ≡ length s₀) × Room n s × Rows n lists × Few t × (j ≤ turns)
 
 abbrev μ-loop : tie.MeasureT-loop
-μ-loop lists₀ s₀ n me from len flag aggressive made t₀ j₀ lists s t j = len - j
+μ-loop lists₀ s₀ n me from len flag aggressive made turns t₀ j₀ lists s t j = turns - j
 
--- src/lib.rt:370:5
+-- src/lib.rt:384:9
+clip-requires : tie.Need-clip-requires Inv-loop μ-loop
+clip-requires c κs = search needs
+
+-- src/lib.rt:389:5
 loop-holds : tie.Need-loop-holds Inv-loop μ-loop
 loop-holds c = search (needs, begin)
 
--- src/lib.rt:371:40
+-- src/lib.rt:390:40
 add-update-at : tie.Need-add-update-at Inv-loop μ-loop
 add-update-at c = search needs
 
--- src/lib.rt:371:9
+-- src/lib.rt:390:9
 update-at-requires : tie.Need-update-at-requires Inv-loop μ-loop
 update-at-requires c κs = search needs
 
--- src/lib.rt:370:9
+-- src/lib.rt:389:9
 add-j : tie.Need-add-j Inv-loop μ-loop
 add-j c = search needs
 
--- src/lib.rt:370:5
+-- src/lib.rt:389:5
 loop-less : tie.Need-loop-less Inv-loop μ-loop
 loop-less c = search needs
 
--- src/lib.rt:370:5
+-- src/lib.rt:389:5
 loop-again : tie.Need-loop-again Inv-loop μ-loop
 loop-again c = search (needs, turn)
 
--- src/lib.rt:352:1
+-- src/lib.rt:370:1
 same-length : tie.Need-same-length Inv-loop μ-loop
 same-length c = search needs
 
--- src/lib.rt:352:1
+-- src/lib.rt:370:1
 same-length-2 : tie.Need-same-length-2 Inv-loop μ-loop
 same-length-2 c = search needs
 
--- src/lib.rt:352:1
+-- src/lib.rt:370:1
 returns : tie.Need-returns Inv-loop μ-loop
-unfolding updatedAll
-returns c = search (needs, finish)
+returns c = search (needs, rows-end)
 
 pub update-all-spec : {M : Type 1} → statement M
 update-all-spec =
@@ -61,6 +67,7 @@ update-all-spec =
     (tie.spec
     Inv-loop
     μ-loop
+    clip-requires
     loop-holds
     add-update-at
     update-at-requires

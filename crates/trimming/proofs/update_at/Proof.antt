@@ -4,12 +4,12 @@ use Rattle.trimming.proofs.update_at.Statement.{statement}
 use Rattle.trimming.proofs.update_at.Tie as tie
 use Rattle.trimming.proofs.update_at.Reads as reads
 use Rattle.trimming.proofs.update_at.Lts as lts
-use Rattle.cells.proofs.peek.Reads as peek-reads
+use Rattle.cells.proofs.row.Reads as row-reads
 use Rattle.trimming.proofs.update_variable.Reads as update-variable-reads
 
 -- src/lib.rt:347:9
-peek-requires : tie.Need-peek-requires
-peek-requires c κs = search needs
+row-requires : tie.Need-row-requires
+row-requires c κs = search needs
 
 -- src/lib.rt:348:5
 update-variable-requires : tie.Need-update-variable-requires
@@ -29,4 +29,4 @@ returns c = search (needs, at-step)
 
 pub update-at-spec : {M : Type 1} → statement M
 update-at-spec =
-    tie.close (tie.spec peek-requires update-variable-requires same-length same-length-2 returns)
+    tie.close (tie.spec row-requires update-variable-requires same-length same-length-2 returns)
