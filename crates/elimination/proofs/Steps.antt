@@ -16,7 +16,7 @@ use Rattle.cells.specs.View.{at, plus, rd}
 use Rattle.chain.specs.First.{First}
 use Rattle.packed.specs.declared.Made.{Made}
 use Rattle.packed.specs.Gather.{cut, keptPart, outside}
-use Rattle.sizing.specs.Model.{sizedAll}
+use Rattle.sizing.specs.Model.{sizedAll, weighedRows}
 use Rattle.trimming.specs.Model.{trimming, updatedAll}
 use Rattle.trimming.specs.declared.Merged.{Merged}
 use Rattle.merging.specs.Model.{mergedRows, merging}
@@ -30,14 +30,8 @@ use Rattle.elimination.specs.declared.Met.{Met}
 use Rattle.elimination.specs.declared.Reduced.{Reduced}
 use Rattle.elimination.specs.declared.Turn.{Turn}
 use Rattle.elimination.specs.declared.Work.{Work}
-use Rattle.elimination.specs.Model.{closed, compared, elementCounted, ended, firstTurn, freeEnd, meeting, met, pivotStep, reduced, placed, placement, nextTurn, reduction, settled, stage, weighedRow, weighedRows}
+use Rattle.elimination.specs.Model.{closed, compared, elementCounted, ended, firstTurn, freeEnd, meeting, met, pivotStep, reduced, placed, placement, nextTurn, reduction, settled, stage}
 use Rattle.elimination.specs.Runs.{Ran, Turned, Whole}
-
--- ---- the rows' weight
-
-pub weighed-is : (n : ℕ) (l s : List ℤ) (q sum i w y : ℕ) → i ≡ at l q → w ≡ rd n NV s i → y ≡ plus sum w → y ≡ weighedRow n l s q sum
-unfolding weighedRow
-weighed-is n l s q sum i w y hi hw hy = rw (← hi, ← hw) hy
 
 -- ---- steps 3 to 5
 

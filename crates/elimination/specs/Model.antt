@@ -1,18 +1,17 @@
 -- What each function does to the memory: the code's own steps, as functions. The laws of `proofs/` say what these mean for the graph.
 -- Assumes nothing.
-use Prim.Native.Nat.{ℕ, _+_, _-_, _<_, _^_, max}
+use Prim.Native.Nat.{ℕ, _-_, _<_, _^_, max}
 use mathlib.Core.Bool.{Bool, cond}
 use mathlib.Core.List.{List}
 use lib.Dec.{ltb}
 use lib.IntN.{ℤ}
-use Rattle.plain.specs.Turns.{times}
 use Rattle.definition.specs.Outcome as Outcomes
 use Rattle.numbers.specs.Gains.{addedElement, counted}
 use Rattle.cells.specs.Layout.{DEGREE, NV, WANT}
-use Rattle.cells.specs.View.{at, plus, rd}
+use Rattle.cells.specs.View.{plus, rd}
 use Rattle.packed.specs.declared.Made.{Made}
 use Rattle.packed.specs.Gather.{keptPart}
-use Rattle.sizing.specs.Model.{sizedAll}
+use Rattle.sizing.specs.Model.{sizedAll, weighedRows}
 use Rattle.trimming.specs.Model.{Trimming, updatedAll}
 use Rattle.merging.specs.Model.{mergedRows, merging}
 use Rattle.placing.specs.declared.Restored.{Restored}
@@ -40,12 +39,6 @@ pub record Few (x : Met) : Type 0 where
   pub merges : x .merges < 2 ^ 63
 
 -- ---- steps 3 to 5
-
-unfoldable pub weighedRow : ℕ → List ℤ → List ℤ → ℕ → ℕ → ℕ
-weighedRow n l s q sum = plus sum (rd n NV s (at l q))
-
-unfoldable pub weighedRows : ℕ → List ℤ → List ℤ → ℕ → ℕ → ℕ
-weighedRows n l s from k = times k (λ t. weighedRow n l s (from + t)) 0
 
 -- the list space, the scratch, and the numbers beside them
 pub record Reduction : Type 0 where

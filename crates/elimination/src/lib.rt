@@ -3,9 +3,10 @@
 ghost use mathlib.Core.Path.{_≡_};
 ghost use Prim.Native.Nat.{_+_, _<_, _^_, max};
 ghost use Rattle.cells.specs.View.{Room, plus};
+ghost use Rattle.cells.specs.Rows.{Rows};
 ghost use Rattle.packed.specs.Gather.{Brief};
 ghost use Rattle.numbers.specs.Meaning.{statisticsMeant};
-ghost use Rattle.elimination.specs.Model.{Small, Few, weighedRow, weighedRows, reduction, reduced, meeting, met, freeEnd, placement, placed, nextTurn, stage, settled, ended, pivotStep, elementCounted, firstTurn, closed};
+ghost use Rattle.elimination.specs.Model.{Small, Few, reduction, reduced, meeting, met, freeEnd, placement, placed, nextTurn, stage, settled, ended, pivotStep, elementCounted, firstTurn, closed};
 ghost use Rattle.elimination.specs.Runs.{Turned, Ran, Whole};
 
 // What a pivot takes over from the one before: how many variables are gone, the least degree, the flag, the largest remaining weight of an element, the merges
@@ -23,28 +24,6 @@ pub struct Turn {
 }
 
 // ---- steps 3 to 5
-
-// `sum`, and the weight of the row in cell `q` of the lists.
-fn weigh_row(lists: &[i64], s: &[i64], n: usize, q: usize, sum: usize) -> usize
-    requires { ⌜ Room n (now s) × (sum < 2 ^ 63) ⌝ }
-    ensures { λ r. ⌜ (r ≡ weighedRow n (now (lists .entry)) (now (s .entry)) q sum) × (r < 2 ^ 63) ⌝ }
-{
-    let i = cells::peek(lists, q);
-    let w = cells::tab(s, n, cells::NV, i);
-    cells::plus(sum, w)
-}
-
-// The weight of the rows in the `k` cells of the lists from `from` on.
-fn weigh_rows(lists: &[i64], s: &[i64], n: usize, from: usize, k: usize) -> usize
-    requires { ⌜ Room n (now s) × (from < 2 ^ 63) × (k < 2 ^ 63) ⌝ }
-    ensures { λ r. ⌜ (r ≡ weighedRows n (now (lists .entry)) (now (s .entry)) from k) × (r < 2 ^ 63) ⌝ }
-{
-    let mut sum = 0;
-    for t in 0..k {
-        sum = weigh_row(lists, s, n, from + t, sum);
-    }
-    sum
-}
 
 // The weight of the new element without the rows eliminated with the pivot, and how many merges are logged.
 pub struct Reduced {
@@ -64,11 +43,10 @@ fn reduce(
     flag: usize,
     merges: usize,
 ) -> Reduced
-    requires { ⌜ Room n (now s) × (me < 2 ^ 63) × (from < 2 ^ 63) × (k < 2 ^ 63) × (flag < 2 ^ 63) × (merges < 2 ^ 63) ⌝ }
-    ensures { λ r. ⌜ (reduction (now (lists .exit)) (now (s .exit)) r ≡ reduced n me from k aggressive flag merges (now (lists .entry)) (now (s .entry))) × Room n (now (s .exit)) × (r .size < 2 ^ 63) × (r .merges < 2 ^ 63) ⌝ }
+    requires { ⌜ Room n (now s) × Rows n (now lists) × (me < n) × (from < 2 ^ 63) × (k < 2 ^ 63) × (flag < 2 ^ 63) × (merges < 2 ^ 63) ⌝ }
+    ensures { λ r. ⌜ (reduction (now (lists .exit)) (now (s .exit)) r ≡ reduced n me from k aggressive flag merges (now (lists .entry)) (now (s .entry))) × Room n (now (s .exit)) × Rows n (now (lists .exit)) × (r .size < 2 ^ 63) × (r .merges < 2 ^ 63) ⌝ }
 {
-    let all = weigh_rows(lists, s, n, from, k);
-    sizing::size_all(lists, s, n, from, k, flag);
+    let all = sizing::size_all(lists, s, n, from, k, flag);
     let t = trimming::update_all(lists, s, n, me, from, k, flag, aggressive, merges);
     let size = cells::less(all, t.weight);
     Reduced {
@@ -81,6 +59,14 @@ fn larger(a: usize, b: usize) -> usize
     ensures { λ r. ⌜ r ≡ max a b ⌝ }
 {
     if a < b { b } else { a }
+}
+
+// A flag that no counter of step 3 reaches: a counter is the flag and at most the largest weight of an element.
+fn raise_flag(flag: usize, most: usize) -> usize
+    requires { ⌜ (flag < 2 ^ 63) × (most < 2 ^ 63) ⌝ }
+    ensures { λ r. ⌜ (r ≡ plus flag most) × (r < 2 ^ 63) ⌝ }
+{
+    cells::plus(flag, most)
 }
 
 // The weight of the new element, and what it makes of the numbers that the next pivot takes over.
@@ -102,12 +88,12 @@ fn meet(
     aggressive: bool,
     t: Turn,
 ) -> Met
-    requires { ⌜ Room n (now s) × (me < 2 ^ 63) × (from < 2 ^ 63) × (k < 2 ^ 63) × Small t ⌝ }
-    ensures { λ r. ⌜ (meeting (now (lists .exit)) (now (s .exit)) r ≡ met n me from k aggressive t (now (lists .entry)) (now (s .entry))) × Room n (now (s .exit)) × Few r ⌝ }
+    requires { ⌜ Room n (now s) × Rows n (now lists) × (me < n) × (from < 2 ^ 63) × (k < 2 ^ 63) × Small t ⌝ }
+    ensures { λ r. ⌜ (meeting (now (lists .exit)) (now (s .exit)) r ≡ met n me from k aggressive t (now (lists .entry)) (now (s .entry))) × Room n (now (s .exit)) × Rows n (now (lists .exit)) × Few r ⌝ }
 {
     let r = reduce(lists, s, n, me, from, k, aggressive, t.flag, t.merges);
     let most = larger(t.most, r.size);
-    let flag = cells::plus(t.flag, most);
+    let flag = raise_flag(t.flag, most);
     let w = merging::merge_all(
         lists,
         s,
@@ -152,8 +138,8 @@ fn place(
     size: usize,
     left: usize,
 ) -> placing::Restored
-    requires { ⌜ Room n (now s) × (d < 2 ^ 63) × Brief m × (size < 2 ^ 63) × (left < 2 ^ 63) ⌝ }
-    ensures { λ r. ⌜ (placement (now (lists .exit)) (now (s .exit)) r ≡ placed n me d m size left (now (lists .entry)) (now (s .entry))) × Room n (now (s .exit)) × (r .count < 2 ^ 63) × (r .least < 2 ^ 63) ⌝ }
+    requires { ⌜ Room n (now s) × Rows n (now lists) × (me < n) × (d < 2 ^ 63) × Brief m × (size < 2 ^ 63) × (left < 2 ^ 63) ⌝ }
+    ensures { λ r. ⌜ (placement (now (lists .exit)) (now (s .exit)) r ≡ placed n me d m size left (now (lists .entry)) (now (s .entry))) × Room n (now (s .exit)) × Rows n (now (lists .exit)) × (r .count < 2 ^ 63) × (r .least < 2 ^ 63) ⌝ }
 {
     let r = placing::restore(lists, s, n, size, left, m.start, m.count, d);
     placing::finish_element(s, n, me, size, r.count);
@@ -197,8 +183,8 @@ fn settle(
     t: Turn,
     gone: usize,
 ) -> Turn
-    requires { ⌜ Room n (now s) × (n < 2 ^ 63) × (d < 2 ^ 63) × Brief m × Few x × Small t × (gone < 2 ^ 63) ⌝ }
-    ensures { λ r. ⌜ (stage (now (lists .exit)) (now (s .exit)) r ≡ settled n me d m x t gone (now (lists .entry)) (now (s .entry))) × Room n (now (s .exit)) × Small r ⌝ }
+    requires { ⌜ Room n (now s) × Rows n (now lists) × (n < 2 ^ 63) × (me < n) × (d < 2 ^ 63) × Brief m × Few x × Small t × (gone < 2 ^ 63) ⌝ }
+    ensures { λ r. ⌜ (stage (now (lists .exit)) (now (s .exit)) r ≡ settled n me d m x t gone (now (lists .entry)) (now (s .entry))) × Room n (now (s .exit)) × Rows n (now (lists .exit)) × Small r ⌝ }
 {
     let left = cells::less(n, gone);
     let r = place(lists, s, n, me, d, m, x.size, left);
@@ -218,10 +204,10 @@ fn end_pivot(
     x: Met,
     t: Turn,
 ) -> Turn
-    requires { ⌜ Room n (now s) × (n < 2 ^ 63) × (d < 2 ^ 63) × Brief m × Few x × Small t ⌝ }
-    ensures { λ r. ⌜ (stage (now (lists .exit)) (now (s .exit)) r ≡ ended n me d m x t (now (lists .entry)) (now (s .entry))) × Room n (now (s .exit)) × Small r ⌝ }
+    requires { ⌜ Room n (now s) × Rows n (now lists) × (n < 2 ^ 63) × (me < n) × (d < 2 ^ 63) × Brief m × Few x × Small t ⌝ }
+    ensures { λ r. ⌜ (stage (now (lists .exit)) (now (s .exit)) r ≡ ended n me d m x t (now (lists .entry)) (now (s .entry))) × Room n (now (s .exit)) × Rows n (now (lists .exit)) × Small r ⌝ }
 {
-    let pivots = cells::tab(s, n, cells::NV, me);
+    let pivots = cells::look(s, n, cells::NV, me);
     let gone = cells::plus(t.gone, pivots);
     settle(lists, s, n, me, d, m, x, t, gone)
 }
@@ -238,8 +224,8 @@ fn eliminate_pivot(
     aggressive: bool,
     t: Turn,
 ) -> Turn
-    requires { ⌜ Room n (now s) × (n < 2 ^ 63) × (me < 2 ^ 63) × (d < 2 ^ 63) × Small t ⌝ }
-    ensures { λ r. ⌜ (stage (now (lists .exit)) (now (s .exit)) r ≡ pivotStep n me d aggressive t (now (lists .entry)) (now (s .entry))) × Room n (now (s .exit)) × Small r ⌝ }
+    requires { ⌜ Room n (now s) × Rows n (now lists) × (n < 2 ^ 63) × (me < n) × (d < 2 ^ 63) × Small t ⌝ }
+    ensures { λ r. ⌜ (stage (now (lists .exit)) (now (s .exit)) r ≡ pivotStep n me d aggressive t (now (lists .entry)) (now (s .entry))) × Room n (now (s .exit)) × Rows n (now (lists .exit)) × Small r ⌝ }
 {
     let m = opening::begin_pivot(lists, s, n, me, t.base, t.free, t.made);
     let x = meet(lists, s, n, me, m.start, m.count, aggressive, t);
@@ -254,11 +240,11 @@ fn count_element(
     dense: usize,
     x: numbers::Statistics,
 ) -> numbers::Statistics
-    requires { ⌜ Room n (now s) × (dense < 2 ^ 63) ⌝ }
+    requires { ⌜ Room n (now s) × (me < n) × (dense < 2 ^ 63) ⌝ }
     ensures { λ r. ⌜ statisticsMeant r ≡ elementCounted n me dense (now (s .entry)) (statisticsMeant x) ⌝ }
 {
-    let f = cells::tab(s, n, cells::NV, me);
-    let rest = cells::rd(s, n, cells::DEGREE, me);
+    let f = cells::look(s, n, cells::NV, me);
+    let rest = cells::get(s, n, cells::DEGREE, me);
     let r = cells::plus(rest, dense);
     numbers::add_element(x, f, r)
 }
@@ -280,8 +266,8 @@ fn take_turn(
     dense: usize,
     w: Work,
 ) -> Work
-    requires { ⌜ Room n (now s) × (n < 2 ^ 63) × (dense < 2 ^ 63) × Small (w .turn) ⌝ }
-    ensures { λ r. ⌜ Turned n aggressive dense (now (lists .entry)) (now (s .entry)) w (now (lists .exit)) (now (s .exit)) r × Room n (now (s .exit)) × Small (r .turn) ⌝ }
+    requires { ⌜ Room n (now s) × Rows n (now lists) × (n < 2 ^ 63) × (dense < 2 ^ 63) × Small (w .turn) ⌝ }
+    ensures { λ r. ⌜ Turned n aggressive dense (now (lists .entry)) (now (s .entry)) w (now (lists .exit)) (now (s .exit)) r × Room n (now (s .exit)) × Rows n (now (lists .exit)) × Small (r .turn) ⌝ }
 {
     let p = chain::find_pivot(s, n, w.turn.least);
     if p.me < n {
@@ -305,8 +291,8 @@ fn eliminate_all(
     dense: usize,
     start: Work,
 ) -> Work
-    requires { ⌜ Room n (now s) × (n < 2 ^ 63) × (dense < 2 ^ 63) × Small (start .turn) ⌝ }
-    ensures { λ r. ⌜ Ran n aggressive dense n (now (lists .entry)) (now (s .entry)) start (now (lists .exit)) (now (s .exit)) r × Room n (now (s .exit)) × Small (r .turn) ⌝ }
+    requires { ⌜ Room n (now s) × Rows n (now lists) × (n < 2 ^ 63) × (dense < 2 ^ 63) × Small (start .turn) ⌝ }
+    ensures { λ r. ⌜ Ran n aggressive dense n (now (lists .entry)) (now (s .entry)) start (now (lists .exit)) (now (s .exit)) r × Room n (now (s .exit)) × Rows n (now (lists .exit)) × Small (r .turn) ⌝ }
 {
     let mut w = start;
     let mut todo = n;
@@ -365,8 +351,8 @@ pub fn eliminate(
     free: usize,
     aggressive: bool,
 ) -> Eliminated
-    requires { ⌜ Room n (now s) × (n < 2 ^ 63) × (free < 2 ^ 63) ⌝ }
-    ensures { λ r. ⌜ Whole n limit free aggressive (now (lists .entry)) (now (s .entry)) (now (lists .exit)) (now (s .exit)) r × Room n (now (s .exit)) ⌝ }
+    requires { ⌜ Room n (now s) × Rows n (now lists) × (n < 2 ^ 63) × (free < 2 ^ 63) ⌝ }
+    ensures { λ r. ⌜ Whole n limit free aggressive (now (lists .entry)) (now (s .entry)) (now (lists .exit)) (now (s .exit)) r × Room n (now (s .exit)) × Rows n (now (lists .exit)) ⌝ }
 {
     let a = opening::start(s, n, limit);
     let turn = first_turn(a.roots, a.dense, free);

@@ -8,7 +8,7 @@ use mathlib.Core.Path.{_≡_, _∙_, ap, refl, sym, subst}
 use lib.IntN.{ℤ}
 use lib.ListN.{length}
 use Rattle.plain.proofs.Entries.{entries-length}
-use Rattle.plain.specs.Turns.{entries}
+use Rattle.plain.specs.Turns.{entries, upd}
 use Rattle.definition.specs.Outcome as Outcomes
 use Rattle.definition.specs.Pivot.{collected, delisted, found, passed, pivot}
 use Rattle.definition.specs.Room as room
@@ -22,8 +22,10 @@ use Rattle.cells.specs.Layout.{DEGREE, ELEN, HEAD, HHEAD, LAST, LEN, NEXT, ORD,
 use Rattle.cells.specs.View.{at, rd}
 use Rattle.chain.proofs.Frame.{chained-same}
 use Rattle.chain.specs.Chained.{Chained}
+use Rattle.packed.proofs.Frame.{inside-space}
 use Rattle.packed.specs.Gather.{Outside}
-use Rattle.drawn.specs.Drawn.{Within}
+use Rattle.packed.specs.Places.{places}
+use Rattle.drawn.specs.Drawn.{Within, listOf}
 use Rattle.drawn.specs.Flags.{Flagged}
 use Rattle.drawn.specs.Log.{Logged}
 use Rattle.sizing.proofs.Externals.{outside-all}
@@ -117,6 +119,15 @@ module _ {N n nd size : ℕ} {l s : List ℤ} {t : Turn} {x : Outcomes.Statistic
 
   pub extent₁ : rd n LEN (begun .mem) p ≡ begun .made .count
   extent₁ = begun-count n l s st (b .inv) (b .weighed) p d (b .which) (t .made) (t .base) (t .free) small narrower (h .drawn) turns fresh roomy rm (h .free)
+
+  -- the new element lies inside the list space
+  pub inside₁ : 0 < begun .made .count → begun .made .start + begun .made .count ≤ length (begun .lists)
+  inside₁ z =
+      omega
+      (arith,
+      place₁,
+      extent₁,
+      inside-space (begun .lists) (places n (begun .mem)) (begun .made .free) (upd (listOf (passed g p)) p new) (drawn₁ .space .lists) p (rw extent₁ z))
 
   pub long₁ : length (begun .lists) ≡ size
   long₁ = begun-long n l s st (b .inv) (b .weighed) p d (b .which) (t .made) (t .base) (t .free) small narrower (h .drawn) turns fresh roomy rm (h .free) ∙ h .long

@@ -30,9 +30,9 @@ use Rattle.merging.proofs.Theorem.{Given, Merged, newest-fewer, step, step-fiel
 use Rattle.merging.specs.declared.Tally.{Tally}
 use Rattle.merging.specs.Model.{Merging, mergedRows, merging}
 use Rattle.elimination.specs.declared.Turn.{Turn}
-use Rattle.elimination.specs.Model.{weighedRows}
+use Rattle.sizing.specs.Model.{weighedRows}
 use Rattle.standing.proofs.Begun.{Before, begun, flag-low, flagged₂, pivot-low, pivot-var, small}
-use Rattle.standing.proofs.Trims.{chained₃, extent₃, light₃, list₃, place₃, trimmed₃, trims}
+use Rattle.standing.proofs.Trims.{chained₃, extent₃, inside₃, light₃, list₃, place₃, trimmed₃, trims}
 
 -- a higher flag is above the marks too
 pub flagged-higher : (n : ℕ) (s : List ℤ) (g : Graph) (a b : ℕ) → a ≤ b → Flagged n s g a → Flagged n s g b
@@ -92,23 +92,23 @@ module _ {N n nd size : ℕ} {l s : List ℤ} {t : Turn} {x : Outcomes.Statistic
         (plus (t .flag) (max (t .most) left)) (length (newestFirst (afterTrim aggressive (st .graph) p) (collected (st .graph) p))) (afterMerge (plainKey n) aggressive (st .graph) p) merges
     merged₄ =
         step n (trims b aggressive .lists) (trims b aggressive .mem) (plainKey n) g₂ p new (begun b .made .made) (begun b .made .base) (begun b .made .free) tally given
-        (begun b .made .start) (begun b .made .count) (list₃ b aggressive)
+        (begun b .made .start) (begun b .made .count) (list₃ b aggressive) (inside₃ b aggressive)
 
     pub fields₄ : (f v : ℕ) → eqb PE f ≡ false → eqb LEN f ≡ false → eqb W f ≡ false → eqb HHEAD f ≡ false → eqb HNEXT f ≡ false → eqb MERGES f ≡ false → eqb NV f ≡ false
         → rd n f (merges .mem) v ≡ rd n f (trims b aggressive .mem) v
     fields₄ =
         step-fields n (trims b aggressive .lists) (trims b aggressive .mem) (plainKey n) g₂ p new (begun b .made .made) (begun b .made .base) (begun b .made .free) tally given
-        (begun b .made .start) (begun b .made .count) (list₃ b aggressive)
+        (begun b .made .start) (begun b .made .count) (list₃ b aggressive) (inside₃ b aggressive)
 
     own₄ : (f : ℕ) → eqb W f ≡ false → eqb HHEAD f ≡ false → eqb HNEXT f ≡ false → eqb MERGES f ≡ false → rd n f (merges .mem) p ≡ rd n f (trims b aggressive .mem) p
     own₄ =
         step-pivot n (trims b aggressive .lists) (trims b aggressive .mem) (plainKey n) g₂ p new (begun b .made .made) (begun b .made .base) (begun b .made .free) tally given
-        (begun b .made .start) (begun b .made .count) (list₃ b aggressive)
+        (begun b .made .start) (begun b .made .count) (list₃ b aggressive) (inside₃ b aggressive)
 
     pub flagged₄ : Flagged n (merges .mem) (afterMerge (plainKey n) aggressive (st .graph) p) (merges .tally .flag)
     flagged₄ =
         step-flagged n (trims b aggressive .lists) (trims b aggressive .mem) (plainKey n) g₂ p new (begun b .made .made) (begun b .made .base) (begun b .made .free) tally given
-        (begun b .made .start) (begun b .made .count) (list₃ b aggressive) (survivor-present aggressive g p (b .inv .graph) (pivot-var b)) flagged₃
+        (begun b .made .start) (begun b .made .count) (list₃ b aggressive) (inside₃ b aggressive) (survivor-present aggressive g p (b .inv .graph) (pivot-var b)) flagged₃
 
     pub place₄ : rd n PE (merges .mem) p ≡ begun b .made .start
     place₄ = own₄ PE refl refl refl refl ∙ place₃ b aggressive

@@ -28,6 +28,8 @@ use Rattle.cells.specs.View.{at, rd}
 use Rattle.chain.proofs.Frame.{chained-frame}
 use Rattle.chain.specs.Chained.{Chained}
 use Rattle.drawn.specs.Drawn.{listOf}
+use Rattle.packed.proofs.Frame.{inside-space}
+use Rattle.packed.specs.Places.{places}
 use Rattle.trimming.proofs.Carried.{rows-done}
 use Rattle.trimming.proofs.Done.{Done}
 use Rattle.trimming.proofs.GraphBounds.{total-square}
@@ -36,8 +38,8 @@ use Rattle.trimming.proofs.GraphStep.{rows-in-memory}
 use Rattle.trimming.specs.Model.{Trimming, updatedAll}
 use Rattle.trimming.specs.Step.{Ready, Trimmed}
 use Rattle.elimination.specs.declared.Turn.{Turn}
-use Rattle.elimination.specs.Model.{weighedRows}
-use Rattle.standing.proofs.Begun.{Before, begun, chained₂, drawn₁, drawn₂, extent₂, heads₂, list₁, logged₂, long₁, outside₂, pivot-var, place₂, sized, small}
+use Rattle.sizing.specs.Model.{weighedRows}
+use Rattle.standing.proofs.Begun.{Before, begun, chained₂, drawn₁, drawn₂, extent₂, heads₂, inside₁, list₁, logged₂, long₁, outside₂, pivot-var, place₂, sized, small}
 use Rattle.standing.proofs.Weighing.{weighed-total}
 
 module _ {N n nd size : ℕ} {l s : List ℤ} {t : Turn} {x : Outcomes.Statistics} {st : State} {rm : room.Room} {p d : ℕ} (b : Before N n nd size l s t x st rm p d) (aggressive : Bool) where
@@ -90,6 +92,14 @@ module _ {N n nd size : ℕ} {l s : List ℤ} {t : Turn} {x : Outcomes.Statistic
   pub extent₃ : rd n LEN (trims .mem) p ≡ begun b .made .count
   extent₃ = trimmed₃ .extent ∙ extent₂ b
 
+  pub inside₃ : 0 < begun b .made .count → begun b .made .start + begun b .made .count ≤ length (trims .lists)
+  inside₃ z =
+      omega
+      (arith,
+      place₃,
+      extent₃,
+      inside-space (trims .lists) (places n (trims .mem)) (begun b .made .free) (upd (listOf g₂) p new) (trimmed₃ .drawn .space .lists) p (rw extent₃ z))
+
   pub list₃ : entries (at (trims .lists)) (begun b .made .start) (begun b .made .count) ≡ collected (st .graph) p
   list₃ =
       ap (λ (a : ℕ). entries (at (trims .lists)) a (begun b .made .count)) (sym place₃) ∙ ap (entries (at (trims .lists)) (rd n PE (trims .mem) p)) (sym extent₃)
@@ -128,7 +138,7 @@ module _ {N n nd size : ℕ} {l s : List ℤ} {t : Turn} {x : Outcomes.Statistic
 
   pub weighed₃ : weighedRows n (begun b .lists) (begun b .mem) (begun b .made .start) (begun b .made .count) ≡ total (weight (st .graph)) (collected (st .graph) p)
   weighed₃ =
-      weighed-total n (begun b .lists) (begun b .mem) (begun b .made .start) (begun b .made .count) new (weight g) (list₁ b) (λ v m. drawn₁ b .weights v (low v m) ∙ weight₁ v)
+      weighed-total n (begun b .lists) (begun b .mem) (begun b .made .start) (begun b .made .count) new (weight g) (inside₁ b) (list₁ b) (λ v m. drawn₁ b .weights v (low v m) ∙ weight₁ v)
       (omega (arith, all-light))
 
   pub light₃ : total (weight (afterTrim aggressive (st .graph) p)) (collected (st .graph) p) < 2 ^ 63

@@ -15,6 +15,7 @@ use Rattle.plain.proofs.Turns.{times-keeps}
 use Rattle.plain.specs.Lists.{keep, member, total}
 use Rattle.plain.specs.Members.{In}
 use Rattle.plain.specs.Turns.{entries}
+use Rattle.cells.proofs.Rows.{clipped-part}
 use Rattle.cells.proofs.Slices.{split}
 use Rattle.cells.specs.Layout.{LEN, MERGES, PE}
 use Rattle.cells.specs.View.{at, rd}
@@ -24,7 +25,6 @@ use Rattle.packed.specs.Places.{Space, places}
 use Rattle.trimming.specs.Model.{Trimming, trimming, updatedAll, updatedAt}
 use Rattle.trimming.proofs.Done.{Done, kept}
 use Rattle.trimming.proofs.Due.{Due, listsAfter, safe}
-use Rattle.trimming.proofs.Filtering.{clipped-whole}
 use Rattle.trimming.proofs.Leaving.{done-goes}
 use Rattle.trimming.proofs.Rowwise.{Fine}
 use Rattle.trimming.proofs.Staying.{done-stays}
@@ -127,5 +127,5 @@ module _ (n me flag : ℕ) (aggressive : Bool) (X : ℕ → List ℕ) (l s : Lis
         (updatedAll n me flag aggressive (rd n PE s me) (rd n LEN s me) made l s)
     unfolding updatedAll
     rows-done =
-        rw (clipped-whole (length l) from len inside)
+        rw (clipped-part (length l) from len inside)
         (times-keeps Along (λ j. updatedAt n me flag aggressive (from + j)) len (λ t m b h. turn t m b h) len (trimming l s (record { weight = 0; made = made })) (omega arith) begun)

@@ -16,13 +16,14 @@ use Rattle.plain.proofs.Members.{kept-passes}
 use Rattle.plain.proofs.Turns.{times-keeps}
 use Rattle.plain.specs.Lists.{itself, keep, member, total}
 use Rattle.plain.specs.Turns.{entries}
+use Rattle.cells.proofs.Rows.{clipped-part}
 use Rattle.cells.proofs.Fields.{rd-null}
 use Rattle.cells.proofs.Slices.{split}
 use Rattle.cells.specs.Layout.{W}
 use Rattle.cells.specs.View.{at, rd, wr}
 use Rattle.packed.specs.Places.{Space}
 use Rattle.trimming.specs.Model.{Keeping, absorbed, counted, keeping, keptElement, keptElements, keptEntry, keptLive, nothing, swallows}
-use Rattle.trimming.proofs.Filtering.{Left, clipped-whole, keep-no-more, keep-one-more, left-more, left-same}
+use Rattle.trimming.proofs.Filtering.{Left, keep-no-more, keep-one-more, left-more, left-same}
 use Rattle.trimming.proofs.Freeing.{Freed, freed-again, freed-more, freed-none}
 use Rattle.trimming.proofs.Steps.{element-no, element-yes, live-no, live-yes}
 
@@ -158,4 +159,4 @@ module _ (n me flag : ℕ) (aggressive : Bool) (X : ℕ → List ℕ) (l s : Lis
   pub elements-sifted : Sifted len (keptElements n me flag aggressive p len l s)
   unfolding keptElements
   elements-sifted =
-      rw (clipped-whole (length l) p len fits) (times-keeps Sifted step len (λ t m b h. turn t m b h) len (keeping l s nothing) (omega arith) begun)
+      rw (clipped-part (length l) p len fits) (times-keeps Sifted step len (λ t m b h. turn t m b h) len (keeping l s nothing) (omega arith) begun)

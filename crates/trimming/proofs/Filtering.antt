@@ -18,11 +18,6 @@ use Rattle.cells.specs.Rows.{clipped}
 use Rattle.cells.specs.View.{at, plus, wr}
 use Rattle.trimming.specs.Model.{Keeping, counted, keeping, keptEntry}
 
--- a part that is there, or has no cell, is read whole
-pub clipped-whole : (size p k : ℕ) → (0 < k → p + k ≤ size) → clipped size p k ≡ k
-unfolding clipped
-clipped-whole size p k h = ⊎-elim (λ z. clipped-all size p k (h z)) (λ z. omega arith) (split 0 k)
-
 pub keep-snoc : (w : ℕ → Bool) (xs : List ℕ) (x : ℕ) → keep w (xs ++ (x ∷ [])) ≡ keep w xs ++ consIf (w x) x []
 unfolding keep
 keep-snoc w [] x = refl

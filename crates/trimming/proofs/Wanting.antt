@@ -14,12 +14,13 @@ use Rattle.plain.proofs.Entries.{entries-none}
 use Rattle.plain.proofs.Turns.{times-keeps}
 use Rattle.plain.specs.Lists.{keep, total}
 use Rattle.plain.specs.Turns.{entries}
+use Rattle.cells.proofs.Rows.{clipped-part}
 use Rattle.cells.proofs.Slices.{split}
 use Rattle.cells.specs.Layout.{WANT}
 use Rattle.cells.specs.View.{at, rd, wr}
 use Rattle.trimming.specs.declared.Kept.{Kept}
 use Rattle.trimming.specs.Model.{Keeping, counted, halfway, keeping, keptEntry, keptVariable, keptVariables}
-use Rattle.trimming.proofs.Filtering.{Left, clipped-whole, keep-no-more, keep-one-more, left-more, left-same}
+use Rattle.trimming.proofs.Filtering.{Left, keep-no-more, keep-one-more, left-more, left-same}
 use Rattle.trimming.proofs.Steps.{variable-no, variable-yes}
 
 module _ (n p from len : ℕ) (l s : List ℤ) (k : Kept) (narrow : length l < 2 ^ 62) (behind : p + k .cnt ≤ from) (fits : 0 < len → from + len ≤ length l) where
@@ -92,5 +93,5 @@ module _ (n p from len : ℕ) (l s : List ℤ) (k : Kept) (narrow : length l < 2
   pub variables-picked : Picked len (keptVariables n p from len (keeping l s k))
   unfolding keptVariables
   variables-picked =
-      rw (clipped-whole (length l) from len fits, clipped-whole (length l) (p + k .cnt) len (λ z. omega (arith, fits z)))
+      rw (clipped-part (length l) from len fits, clipped-part (length l) (p + k .cnt) len (λ z. omega (arith, fits z)))
       (times-keeps Picked step len (λ t m b h. ⊎-elim (λ z. passes t m b h z) (λ z. fails t m b h z) (split 0 (rd n WANT s (at (m .lists) (from + t))))) len (keeping l s (halfway k)) (omega arith) begun)

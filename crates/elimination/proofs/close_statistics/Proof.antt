@@ -7,15 +7,12 @@ use Rattle.elimination.proofs.close_statistics.Lts as lts
 use Rattle.numbers.proofs.add_element.Reads as add-element-reads
 use Rattle.numbers.proofs.with_collections.Reads as with-collections-reads
 
--- src/lib.rt:295:9
 add-element-requires : tie.Need-add-element-requires
 add-element-requires c κs = search needs
 
--- src/lib.rt:296:5
 with-collections-requires : tie.Need-with-collections-requires
 with-collections-requires c κs = search needs
 
--- src/lib.rt:291:1
 returns : tie.Need-returns
 returns c = search (needs, closed-is)
 

@@ -10,35 +10,27 @@ use Rattle.elimination.proofs.first_turn.Reads as first-turn-reads
 use Rattle.numbers.proofs.first_statistics.Reads as first-statistics-reads
 use Rattle.opening.proofs.start.Reads as start-reads
 
--- src/lib.rt:353:9
 start-requires : tie.Need-start-requires
 start-requires c κs = search needs
 
--- src/lib.rt:354:9
 first-turn-requires : tie.Need-first-turn-requires
 first-turn-requires c κs = search needs
 
--- src/lib.rt:355:9
 first-statistics-requires : tie.Need-first-statistics-requires
 first-statistics-requires c κs = search needs
 
--- src/lib.rt:356:9
 eliminate-all-requires : tie.Need-eliminate-all-requires
 eliminate-all-requires c κs = search needs
 
--- src/lib.rt:367:9
 close-statistics-requires : tie.Need-close-statistics-requires
 close-statistics-requires c κs = search needs
 
--- src/lib.rt:342:1
 same-length : tie.Need-same-length
 same-length c = search needs
 
--- src/lib.rt:342:1
 same-length-2 : tie.Need-same-length-2
 same-length-2 c = search needs
 
--- src/lib.rt:342:1
 returns : tie.Need-returns
 returns c = search (needs, whole-is)
 

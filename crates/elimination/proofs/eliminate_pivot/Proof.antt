@@ -8,27 +8,21 @@ use Rattle.elimination.proofs.end_pivot.Reads as end-pivot-reads
 use Rattle.elimination.proofs.meet.Reads as meet-reads
 use Rattle.opening.proofs.begin_pivot.Reads as begin-pivot-reads
 
--- src/lib.rt:244:9
 begin-pivot-requires : tie.Need-begin-pivot-requires
 begin-pivot-requires c κs = search needs
 
--- src/lib.rt:245:9
 meet-requires : tie.Need-meet-requires
 meet-requires c κs = search needs
 
--- src/lib.rt:246:5
 end-pivot-requires : tie.Need-end-pivot-requires
 end-pivot-requires c κs = search needs
 
--- src/lib.rt:232:1
 same-length : tie.Need-same-length
 same-length c = search needs
 
--- src/lib.rt:232:1
 same-length-2 : tie.Need-same-length-2
 same-length-2 c = search needs
 
--- src/lib.rt:232:1
 returns : tie.Need-returns
 returns c = search (needs, pivot-is)
 

@@ -5,34 +5,28 @@ use Rattle.elimination.proofs.end_pivot.Tie as tie
 use Rattle.elimination.proofs.end_pivot.Reads as reads
 use Rattle.elimination.proofs.end_pivot.Lts as lts
 use Rattle.cells.proofs.plus.Reads as plus-reads
-use Rattle.cells.proofs.tab.Reads as tab-reads
+use Rattle.cells.proofs.look.Reads as look-reads
 use Rattle.elimination.proofs.settle.Reads as settle-reads
 
--- src/lib.rt:224:9
-tab-requires : tie.Need-tab-requires
-tab-requires c κs = search needs
+look-requires : tie.Need-look-requires
+look-requires c κs = search needs
 
--- src/lib.rt:225:9
 plus-requires : tie.Need-plus-requires
 plus-requires c κs = search needs
 
--- src/lib.rt:226:5
 settle-requires : tie.Need-settle-requires
 settle-requires c κs = search needs
 
--- src/lib.rt:211:1
 same-length : tie.Need-same-length
 same-length c = search needs
 
--- src/lib.rt:211:1
 same-length-2 : tie.Need-same-length-2
 same-length-2 c = search needs
 
--- src/lib.rt:211:1
 returns : tie.Need-returns
 returns c = search (needs, ended-is)
 
 pub end-pivot-spec : {M : Type 1} → statement M
 end-pivot-spec =
     tie.close
-    (tie.spec tab-requires plus-requires settle-requires same-length same-length-2 returns)
+    (tie.spec look-requires plus-requires settle-requires same-length same-length-2 returns)

@@ -6,11 +6,9 @@ use Rattle.elimination.proofs.first_turn.Reads as reads
 use Rattle.elimination.proofs.first_turn.Lts as lts
 use Rattle.cells.proofs.plus.Reads as plus-reads
 
--- src/lib.rt:268:9
 plus-requires : tie.Need-plus-requires
 plus-requires c κs = search needs
 
--- src/lib.rt:267:1
 returns : tie.Need-returns
 returns c = search (needs, first-is)
 

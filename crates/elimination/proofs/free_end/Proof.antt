@@ -6,15 +6,12 @@ use Rattle.elimination.proofs.free_end.Reads as reads
 use Rattle.elimination.proofs.free_end.Lts as lts
 use Rattle.cells.proofs.plus.Reads as plus-reads
 
--- src/lib.rt:130:9
 plus-requires : tie.Need-plus-requires
 plus-requires c κs = search needs
 
--- src/lib.rt:125:1
 returns : tie.Need-returns
 returns c = search (needs, free-behind)
 
--- src/lib.rt:125:1
 returns-2 : tie.Need-returns-2
 returns-2 c = search (needs, free-same)
 

@@ -4,39 +4,33 @@ use Rattle.elimination.proofs.meet.Statement.{statement}
 use Rattle.elimination.proofs.meet.Tie as tie
 use Rattle.elimination.proofs.meet.Reads as reads
 use Rattle.elimination.proofs.meet.Lts as lts
-use Rattle.cells.proofs.plus.Reads as plus-reads
+use Rattle.elimination.proofs.raise_flag.Reads as raise-flag-reads
 use Rattle.elimination.proofs.larger.Reads as larger-reads
 use Rattle.elimination.proofs.reduce.Reads as reduce-reads
 use Rattle.merging.proofs.merge_all.Reads as merge-all-reads
 
--- src/lib.rt:108:9
 reduce-requires : tie.Need-reduce-requires
 reduce-requires c κs = search needs
 
--- src/lib.rt:109:9
 larger-requires : tie.Need-larger-requires
 larger-requires c κs = search needs
 
--- src/lib.rt:110:9
-plus-requires : tie.Need-plus-requires
-plus-requires c κs = search needs
+raise-flag-requires : tie.Need-raise-flag-requires
+raise-flag-requires c κs = search needs
 
--- src/lib.rt:111:9
 merge-all-requires : tie.Need-merge-all-requires
 merge-all-requires c κs = search needs
 
--- src/lib.rt:95:1
 same-length : tie.Need-same-length
 same-length c = search needs
 
--- src/lib.rt:95:1
 same-length-2 : tie.Need-same-length-2
 same-length-2 c = search needs
 
--- src/lib.rt:95:1
 returns : tie.Need-returns
 returns c = (
   search (needs, met-is),
+  search needs,
   search needs,
   record { size = search needs; most = search needs; flag = search needs; merges = search needs },
 )
@@ -47,7 +41,7 @@ meet-spec =
     (tie.spec
     reduce-requires
     larger-requires
-    plus-requires
+    raise-flag-requires
     merge-all-requires
     same-length
     same-length-2

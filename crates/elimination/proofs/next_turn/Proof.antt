@@ -5,7 +5,6 @@ use Rattle.elimination.proofs.next_turn.Tie as tie
 use Rattle.elimination.proofs.next_turn.Reads as reads
 use Rattle.elimination.proofs.next_turn.Lts as lts
 
--- src/lib.rt:164:1
 returns : tie.Need-returns
 unfolding nextTurn
 returns c = search needs

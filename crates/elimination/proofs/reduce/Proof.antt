@@ -5,35 +5,24 @@ use Rattle.elimination.proofs.reduce.Tie as tie
 use Rattle.elimination.proofs.reduce.Reads as reads
 use Rattle.elimination.proofs.reduce.Lts as lts
 use Rattle.cells.proofs.less.Reads as less-reads
-use Rattle.elimination.proofs.weigh_rows.Reads as weigh-rows-reads
 use Rattle.sizing.proofs.size_all.Reads as size-all-reads
 use Rattle.trimming.proofs.update_all.Reads as update-all-reads
 
--- src/lib.rt:62:9
-weigh-rows-requires : tie.Need-weigh-rows-requires
-weigh-rows-requires c κs = search needs
-
--- src/lib.rt:63:5
 size-all-requires : tie.Need-size-all-requires
 size-all-requires c κs = search needs
 
--- src/lib.rt:64:9
 update-all-requires : tie.Need-update-all-requires
 update-all-requires c κs = search needs
 
--- src/lib.rt:65:9
 less-requires : tie.Need-less-requires
 less-requires c κs = search needs
 
--- src/lib.rt:48:1
 same-length : tie.Need-same-length
 same-length c = search needs
 
--- src/lib.rt:48:1
 same-length-2 : tie.Need-same-length-2
 same-length-2 c = search needs
 
--- src/lib.rt:48:1
 returns : tie.Need-returns
 returns c = search (needs, reduced-is)
 
@@ -41,7 +30,6 @@ pub reduce-spec : {M : Type 1} → statement M
 reduce-spec =
     tie.close
     (tie.spec
-    weigh-rows-requires
     size-all-requires
     update-all-requires
     less-requires

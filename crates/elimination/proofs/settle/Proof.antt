@@ -10,35 +10,27 @@ use Rattle.elimination.proofs.free_end.Reads as free-end-reads
 use Rattle.elimination.proofs.next_turn.Reads as next-turn-reads
 use Rattle.elimination.proofs.place.Reads as place-reads
 
--- src/lib.rt:203:9
 less-requires : tie.Need-less-requires
 less-requires c κs = search needs
 
--- src/lib.rt:204:9
 place-requires : tie.Need-place-requires
 place-requires c κs = search needs
 
--- src/lib.rt:205:9
 free-end-requires : tie.Need-free-end-requires
 free-end-requires c κs = search needs
 
--- src/lib.rt:206:9
 plus-requires : tie.Need-plus-requires
 plus-requires c κs = search needs
 
--- src/lib.rt:207:5
 next-turn-requires : tie.Need-next-turn-requires
 next-turn-requires c κs = search needs
 
--- src/lib.rt:189:1
 same-length : tie.Need-same-length
 same-length c = search needs
 
--- src/lib.rt:189:1
 same-length-2 : tie.Need-same-length-2
 same-length-2 c = search needs
 
--- src/lib.rt:189:1
 returns : tie.Need-returns
 returns c = search (needs, settled-is)
 

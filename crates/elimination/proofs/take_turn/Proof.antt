@@ -8,35 +8,27 @@ use Rattle.chain.proofs.find_pivot.Reads as find-pivot-reads
 use Rattle.elimination.proofs.count_element.Reads as count-element-reads
 use Rattle.elimination.proofs.eliminate_pivot.Reads as eliminate-pivot-reads
 
--- src/lib.rt:227:9
 find-pivot-requires : tie.Need-find-pivot-requires
 find-pivot-requires c κs = search needs
 
--- src/lib.rt:229:13
 eliminate-pivot-requires : tie.Need-eliminate-pivot-requires
 eliminate-pivot-requires c κs = search (needs, degree-small)
 
--- src/lib.rt:230:13
 count-element-requires : tie.Need-count-element-requires
 count-element-requires c κs = search needs
 
--- src/lib.rt:216:1
 same-length : tie.Need-same-length
 same-length c = search needs
 
--- src/lib.rt:216:1
 same-length-2 : tie.Need-same-length-2
 same-length-2 c = search needs
 
--- src/lib.rt:216:1
 returns : tie.Need-returns
 returns c = search (needs, turned-is)
 
--- src/lib.rt:216:1
 same-length-3 : tie.Need-same-length-3
 same-length-3 c = search needs
 
--- src/lib.rt:216:1
 returns-2 : tie.Need-returns-2
 returns-2 c = search (needs, turned-none)
 
