@@ -9,10 +9,10 @@ use mathlib.Core.Bool.{Bool, true, false, cond}
 use mathlib.Core.List.{List}
 use borrow.Author.Tests.{ltb-true, leb-true, eqb-true, lt-ltb, le-ltb, le-leb, lt-leb, eq-eqb, ne-eqb}
 use lib.Dec.{ltb, leb, eqb}
-use lib.IntN.{ℤ}
-use lib.ListN.{length}
+use lib.IntN.{ℤ, pos}
+use lib.ListN.{length, replicate, length-replicate}
 use Rattle.cells.specs.View.{at, wr, place, within, rd, up, negative, Room, spare}
-use Rattle.cells.proofs.Slices.{split, same?, calm-wr, at-wr-same, at-wr-other, length-wr, wr-wr, wr-comm}
+use Rattle.cells.proofs.Slices.{split, same?, calm-wr, calm-cleared, at-wr-same, at-wr-other, length-wr, wr-wr, wr-comm}
 
 -- ---- where a field's cells are
 
@@ -176,6 +176,10 @@ module _ (n f : ℕ) (s : List ℤ) (i v : ℕ) where
 
   pub room-up : Room n s → Room n (up n f s i v)
   room-up h = record { room = omega (arith, h .room, length-up); calm = λ g j a w. up-calm (within n f i) refl (place n g j) (h .calm g j a w) }
+
+-- a slice that was cleared, and is long enough, is a room
+pub room-cleared : (n k : ℕ) → 16 * n + 16 ≤ k → Room n (replicate k (pos 0))
+room-cleared n k h = record { room = omega (arith, length-replicate k (pos 0)); calm = λ f i a w. calm-cleared k (place n f i) }
 
 pub rd-in : (n f : ℕ) (s : List ℤ) (i : ℕ) → within n f i ≡ true → rd n f s i ≡ at s (place n f i)
 unfolding rd

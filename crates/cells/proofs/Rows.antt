@@ -12,6 +12,8 @@ use lib.IntN.{ℤ, pos, negsuc}
 use lib.Signed.{ltZ}
 use lib.ListN.{length, getD}
 use lib.Seq.{getD-set-same, getD-set-other}
+use Rattle.plain.specs.Turns.{times, Turned}
+use Rattle.plain.proofs.Turns.{finish}
 use Rattle.cells.specs.View.{nat, at, wr, negative}
 use Rattle.cells.specs.Rows.{isRow, rowOf, Rows, Swept, clipped}
 use Rattle.cells.proofs.Slices.{split, same?, at-wr-same, at-wr-other, at-out, wr-out, length-wr}
@@ -64,6 +66,20 @@ rows-copied n l p e x m a b h = rw (b, a) (rows-copy n l h p e)
 pub clipped-all : (size p k : ℕ) → p + k ≤ size → clipped size p k ≡ k
 unfolding clipped
 clipped-all size p k h = omega arith
+
+-- where an empty part lies says nothing
+pub clipped-part : (size p k : ℕ) → (0 < k → p + k ≤ size) → clipped size p k ≡ k
+unfolding clipped
+clipped-part size p k h = go (split 0 k)
+  where
+    go : (0 < k) ⊎ (k ≤ 0) → min k (size - p) ≡ k
+    go (inl a) = omega (arith, h a)
+    go (inr a) = omega arith
+
+-- a loop over the cells of a part that are there
+pub clipped-finish : {X : Type 0} (f : ℕ → X → X) (s : X) (t : ℕ) (x : X) → Turned f s t x → (size p k m : ℕ) → m ≡ clipped size p k → t ≤ m → m ≤ t
+    → x ≡ times (clipped size p k) f s
+clipped-finish f s t x h size p k m e a b = finish f s t x h (clipped size p k) (omega arith) (omega arith)
 
 -- ---- a sweep
 

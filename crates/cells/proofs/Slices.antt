@@ -1,9 +1,9 @@
 -- The laws of `at` and `wr`: what a cell holds after a store, and that a store keeps the length.
 -- Assumes nothing.
-use Prim.Native.Nat.{ℕ, _+_, _-_, _<_, _≤_, _^_}
+use Prim.Native.Nat.{ℕ, zero, suc, _+_, _-_, _<_, _≤_, _^_}
 use native.Mathlib.Omega.{arith}
 use native.Mathlib.Decide.{decLt, ℕ-discrete}
-use mathlib.Core.Path.{_≡_, sym, ap, _∙_}
+use mathlib.Core.Path.{_≡_, refl, sym, ap, _∙_}
 use mathlib.Core.Logic.{_≢_, _⊎_, inl, inr}
 use mathlib.Core.Bool.{true, false}
 use mathlib.Core.List.{List}
@@ -11,7 +11,7 @@ use borrow.Author.Tests.{ltb-true, lt-ltb, le-ltb}
 use lib.Dec.{ltb}
 use lib.IntN.{ℤ, pos}
 use lib.Signed.{ltZ}
-use lib.ListN.{length, getD, length-set, List·getD-eq-default}
+use lib.ListN.{length, getD, replicate, length-set, List·getD-eq-default}
 use lib.Seq.{getD-set-same, getD-set-other, set-out, set-comm, set-set}
 use Rattle.cells.specs.View.{nat, at, wr, negative, plus}
 
@@ -63,6 +63,13 @@ module _ (l : List ℤ) (i v j : ℕ) (k : negative l j ≡ false) where
   -- a number that is stored makes nothing negative
   pub calm-wr : negative (wr l i v) j ≡ false
   calm-wr = calm-by (split i (length l)) (same? j i)
+
+-- nothing is, where every cell is 0
+pub calm-cleared : (k j : ℕ) → negative (replicate k (pos 0)) j ≡ false
+unfolding negative
+calm-cleared zero j = refl
+calm-cleared (suc k) zero = refl
+calm-cleared (suc k) (suc j) = calm-cleared k j
 
 -- ---- two stores
 

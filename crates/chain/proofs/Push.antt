@@ -19,6 +19,7 @@ use Rattle.cells.specs.Layout.{DEGREE, NEXT, LAST, HEAD}
 use Rattle.cells.specs.View.{rd, Room}
 use Rattle.cells.specs.Links.{parent}
 use Rattle.cells.proofs.Slices.{same?}
+use Rattle.cells.proofs.Fields.{room-up}
 use Rattle.cells.proofs.Laws.{mem, room-yes}
 use Rattle.chain.specs.Model.{linkedBefore, pushed}
 use Rattle.chain.specs.Chained.{links, Node, Seg, Chained}
@@ -42,7 +43,8 @@ module _ (n : ℕ) (s : List ℤ) (d i : ℕ) where
   pushed-length = simp mem
 
   pub pushed-room : Room n s → Room n (pushed n s d i)
-  pushed-room h = record { room = omega (arith, h .room, pushed-length) }
+  unfolding pushed linkedBefore
+  pushed-room h = room-up n HEAD _ d i (room-up n DEGREE _ i d (room-up n LAST _ i n (room-up n NEXT _ i _ (room-up n LAST s _ i h))))
 
   pub head-other : (e : ℕ) → d ≢ e → rd n HEAD (pushed n s d i) e ≡ rd n HEAD s e
   unfolding pushed linkedBefore

@@ -18,6 +18,7 @@ use Rattle.cells.specs.Layout.{DEGREE, NEXT, LAST, HEAD}
 use Rattle.cells.specs.View.{rd, up, Room}
 use Rattle.cells.specs.Links.{parent}
 use Rattle.cells.proofs.Slices.{split, same?}
+use Rattle.cells.proofs.Fields.{room-up}
 use Rattle.cells.proofs.Laws.{mem, rd-up-field, room-yes}
 use Rattle.chain.specs.Model.{removed}
 use Rattle.chain.specs.Chained.{Links, links, Seg, Chained}
@@ -150,7 +151,7 @@ module _ (n : ℕ) (s : List ℤ) (i : ℕ) where
   removed-length = cases (λ t. length t ≡ length s) (λ a. simp mem) (λ a. simp mem)
 
   pub removed-room : Room n s → Room n (removed n s i)
-  removed-room h = record { room = omega (arith, h .room, removed-length) }
+  removed-room h = cases (Room n) (λ a. room-up n NEXT _ _ _ (room-up n LAST s _ _ h)) (λ a. room-up n HEAD _ _ _ (room-up n LAST s _ _ h))
 
   module _ (room : Room n s) where
     out : Out n (links n s) (links n (removed n s i)) i

@@ -5,9 +5,11 @@ use mathlib.Core.Bool.{cond}
 use mathlib.Core.List.{List}
 use lib.Dec.{ltb, leb}
 use lib.IntN.{ℤ}
+use lib.ListN.{length}
 use Rattle.plain.specs.Turns.{times}
 use Rattle.cells.specs.Layout.{LEN, DEGREE, NEXT, LAST, HEAD}
 use Rattle.cells.specs.View.{at, rd, up}
+use Rattle.cells.specs.Rows.{clipped}
 
 -- ---- one row
 
@@ -29,9 +31,9 @@ pushed n s d i = up n HEAD (up n DEGREE (linkedBefore n s (rd n HEAD s d) i) i d
 
 -- ---- many rows
 
--- the rows in the k cells of the list space from p on leave their lists, one after the other
+-- the rows in the k cells of the list space from p on, those that are there, leave their lists, one after the other
 unfoldable pub removedAll : List ℤ → ℕ → ℕ → ℕ → List ℤ → List ℤ
-removedAll l n p k s = times k (λ t m. removed n m (at l (p + t))) s
+removedAll l n p k s = times (clipped (length l) p k) (λ t m. removed n m (at l (p + t))) s
 
 -- ---- the start
 

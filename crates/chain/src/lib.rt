@@ -2,7 +2,9 @@
 // store does nothing. Nothing here asks for lists that make sense: a contract is the function's own model, and the laws of `proofs/` say what it does to the lists.
 ghost use mathlib.Core.Path.{_≡_};
 ghost use Prim.Native.Nat.{_+_, _<_, _^_};
+ghost use lib.ListN.{length};
 ghost use Rattle.cells.specs.View.{Room, at};
+ghost use Rattle.cells.specs.Rows.{Rows};
 ghost use Rattle.chain.specs.Model.{relinked, removed, linkedBefore, pushed, removedAll, emptied, enlistedOne, enlistedAll};
 ghost use Rattle.chain.specs.First.{First};
 
@@ -14,46 +16,46 @@ pub struct Pivot {
 
 // What stood before row `i`, or the head of its list where nothing did, goes on at `after`.
 fn relink(s: &mut [i64], n: usize, i: usize, before: usize, after: usize)
-    requires { ⌜ Room n (now s) × (after < 2 ^ 63) ⌝ }
+    requires { ⌜ Room n (now s) × (i < n) × (after < 2 ^ 63) ⌝ }
     ensures { λ _. ⌜ (now (s .exit) ≡ relinked n (now (s .entry)) i before after) × Room n (now (s .exit)) ⌝ }
 {
     if before < n {
-        cells::up(s, n, cells::NEXT, before, after);
+        cells::set(s, n, cells::NEXT, before, after);
     } else {
-        let d = cells::rd(s, n, cells::DEGREE, i);
+        let d = cells::get(s, n, cells::DEGREE, i);
         cells::put(s, n, cells::HEAD, d, after);
     }
 }
 
 // Takes row `i` out of the list that it stands in, wherever it stands there.
 pub fn take_out(s: &mut [i64], n: usize, i: usize)
-    requires { ⌜ Room n (now s) ⌝ }
+    requires { ⌜ Room n (now s) × (i < n) ⌝ }
     ensures { λ _. ⌜ (now (s .exit) ≡ removed n (now (s .entry)) i) × Room n (now (s .exit)) ⌝ }
 {
-    let before = cells::rd(s, n, cells::LAST, i);
-    let after = cells::rd(s, n, cells::NEXT, i);
+    let before = cells::get(s, n, cells::LAST, i);
+    let after = cells::get(s, n, cells::NEXT, i);
     cells::up(s, n, cells::LAST, after, before);
     relink(s, n, i, before, after);
 }
 
 // Row `i` stands before row `front`, and nothing before it.
 fn link_before(s: &mut [i64], n: usize, front: usize, i: usize)
-    requires { ⌜ Room n (now s) × (front < 2 ^ 63) × (i < 2 ^ 63) ⌝ }
+    requires { ⌜ Room n (now s) × (front < 2 ^ 63) × (i < n) ⌝ }
     ensures { λ _. ⌜ (now (s .exit) ≡ linkedBefore n (now (s .entry)) front i) × Room n (now (s .exit)) ⌝ }
 {
     cells::up(s, n, cells::LAST, front, i);
-    cells::up(s, n, cells::NEXT, i, front);
-    cells::up(s, n, cells::LAST, i, n);
+    cells::set(s, n, cells::NEXT, i, front);
+    cells::set(s, n, cells::LAST, i, n);
 }
 
 // Puts row `i` to the front of the list of degree `d`, which becomes its degree.
 pub fn put_front(s: &mut [i64], n: usize, d: usize, i: usize)
-    requires { ⌜ Room n (now s) × (d < 2 ^ 63) × (i < 2 ^ 63) ⌝ }
+    requires { ⌜ Room n (now s) × (d < 2 ^ 63) × (i < n) ⌝ }
     ensures { λ _. ⌜ (now (s .exit) ≡ pushed n (now (s .entry)) d i) × Room n (now (s .exit)) ⌝ }
 {
     let front = cells::tab(s, n, cells::HEAD, d);
     link_before(s, n, front, i);
-    cells::up(s, n, cells::DEGREE, i, d);
+    cells::set(s, n, cells::DEGREE, i, d);
     cells::put(s, n, cells::HEAD, d, i);
 }
 
@@ -67,7 +69,7 @@ pub fn find_pivot(s: &[i64], n: usize, least: usize) -> Pivot
         if n <= d {
             break Pivot { me: n, degree: d };
         }
-        let front = cells::tab(s, n, cells::HEAD, d);
+        let front = cells::look(s, n, cells::HEAD, d);
         if front < n {
             break Pivot {
                 me: front,
@@ -80,19 +82,20 @@ pub fn find_pivot(s: &[i64], n: usize, least: usize) -> Pivot
 
 // Takes the row in cell `q` of the list space out of its list.
 fn take_at(lists: &[i64], s: &mut [i64], n: usize, q: usize)
-    requires { ⌜ Room n (now s) ⌝ }
+    requires { ⌜ Room n (now s) × Rows n (now lists) × (q < length (now lists)) ⌝ }
     ensures { λ _. ⌜ (now (s .exit) ≡ removed n (now (s .entry)) (at (now (lists .entry)) q)) × Room n (now (s .exit)) ⌝ }
 {
-    let i = cells::peek(lists, q);
+    let i = cells::row(lists, n, q);
     take_out(s, n, i);
 }
 
 // Takes the rows in the `k` cells of the list space from `from` on out of their lists, one after the other.
 pub fn take_all(lists: &[i64], s: &mut [i64], n: usize, from: usize, k: usize)
-    requires { ⌜ Room n (now s) × (from < 2 ^ 63) × (k < 2 ^ 63) ⌝ }
+    requires { ⌜ Room n (now s) × Rows n (now lists) ⌝ }
     ensures { λ _. ⌜ (now (s .exit) ≡ removedAll (now (lists .entry)) n from k (now (s .entry))) × Room n (now (s .exit)) ⌝ }
 {
-    for t in 0..k {
+    let there = cells::clip(lists.len(), from, k);
+    for t in 0..there {
         take_at(lists, s, n, from + t);
     }
 }
@@ -103,16 +106,16 @@ fn empty_lists(s: &mut [i64], n: usize)
     ensures { λ _. ⌜ (now (s .exit) ≡ emptied n (now (s .entry))) × Room n (now (s .exit)) ⌝ }
 {
     for d in 0..n {
-        cells::put(s, n, cells::HEAD, d, n);
+        cells::note(s, n, cells::HEAD, d, n);
     }
 }
 
 // Puts row `i` to the front of the list of its length: a row of length 0 and a row longer than the limit go into no list.
 fn enlist(s: &mut [i64], n: usize, limit: usize, i: usize)
-    requires { ⌜ Room n (now s) × (i < 2 ^ 63) ⌝ }
+    requires { ⌜ Room n (now s) × (i < n) ⌝ }
     ensures { λ _. ⌜ (now (s .exit) ≡ enlistedOne n limit i (now (s .entry))) × Room n (now (s .exit)) ⌝ }
 {
-    let d = cells::rd(s, n, cells::LEN, i);
+    let d = cells::get(s, n, cells::LEN, i);
     if 0 < d {
         if d <= limit {
             put_front(s, n, d, i);

@@ -20,8 +20,10 @@ use Rattle.plain.specs.Members.{Distinct, In}
 use Rattle.plain.specs.Turns.{entries}
 use Rattle.cells.proofs.Fields.{room-up}
 use Rattle.cells.proofs.Laws.{mem, room-yes, rd-up-field}
+use Rattle.cells.proofs.Rows.{clipped-all}
 use Rattle.cells.proofs.Slices.{same?}
 use Rattle.cells.specs.Layout.{ELEN, LEN, PE, W}
+use Rattle.cells.specs.Rows.{clipped}
 use Rattle.cells.specs.View.{Room, at, rd, up}
 use Rattle.definition.specs.Merge.{entriesOf, sameLists}
 use Rattle.definition.specs.State.{Graph, elementsOf, variablesOf}
@@ -32,9 +34,9 @@ use Rattle.merging.specs.Model.{alikeNow, allMarked, hasMark, marking, s
 abbrev pub markAll : ℕ → ℕ → List ℕ → List ℤ → List ℤ
 markAll n flag xs s = foldl (λ m x. up n W m x flag) s xs
 
-pub marking-all : (l : List ℤ) (n flag p k : ℕ) (s : List ℤ) → marking l n flag p k s ≡ markAll n flag (entries (at l) p k) s
+pub marking-all : (l : List ℤ) (n flag p k : ℕ) (s : List ℤ) → p + k ≤ length l → marking l n flag p k s ≡ markAll n flag (entries (at l) p k) s
 unfolding marking
-marking-all l n flag p k s = times-fold (λ x m. up n W m x flag) (at l) p k s
+marking-all l n flag p k s b = rw (clipped-all (length l) p k b) (times-fold (λ x m. up n W m x flag) (at l) p k s)
 
 pub marks-room : (n flag : ℕ) (xs : List ℕ) (s : List ℤ) → Room n s → Room n (markAll n flag xs s)
 marks-room n flag [] s r = r
@@ -106,13 +108,14 @@ every-marked n flag s xs h (y ∷ ys) b = rw (h .is y (b y (member-here y ys)), 
 
 -- ---- the comparison
 
--- the memory holds row v's list, which begins with an element
+-- the memory holds row v's list, which begins with an element, inside the list space
 pub record Held (n : ℕ) (l s : List ℤ) (g : Graph) (v : ℕ) : Type 0 where
   pub list : entries (at l) (rd n PE s v) (rd n LEN s v) ≡ elementsOf g v ++ variablesOf g v
   pub elen : rd n ELEN s v ≡ length (elementsOf g v)
   pub first : ℕ
   pub rest : List ℕ
   pub elements : elementsOf g v ≡ first ∷ rest
+  pub inside : 0 < rd n LEN s v → rd n PE s v + rd n LEN s v ≤ length l
 
 module _ (n : ℕ) (l s : List ℤ) (g : Graph) (v : ℕ) (h : Held n l s g v) where
   whole : entries (at l) (rd n PE s v) (rd n LEN s v) ≡ h .first ∷ entriesOf g v
@@ -126,6 +129,9 @@ module _ (n : ℕ) (l s : List ℤ) (g : Graph) (v : ℕ) (h : Held n l s g v) w
   held-rest =
       let e : rd n LEN s v ≡ 1 + (rd n LEN s v - 1) = omega (arith, held-length) in
       sym (entries-drop (at l) (rd n PE s v) (rd n LEN s v - 1) 1) ∙ ap (λ (k : ℕ). drop 1 (entries (at l) (rd n PE s v) k)) (sym e) ∙ ap (drop 1) whole
+
+  pub held-inside : rd n PE s v + 1 + (rd n LEN s v - 1) ≤ length l
+  held-inside = omega (arith, held-length, h .inside (omega (arith, held-length)))
 
 eq-as : (a b c d : ℕ) → (a ≡ b → c ≡ d) → (c ≡ d → a ≡ b) → eqb a b ≡ eqb c d
 eq-as a b c d f g = go (same? a b)
@@ -146,8 +152,10 @@ unfolding alikeNow sameElements tailMarked allMarked
 alike-same n l s g flag i j hi hj m b d =
     let a = held-length n l s g i hi in
     let c = held-length n l s g j hj in
-    all-three (eqb (rd n LEN s i) (rd n LEN s j)) (eqb (rd n ELEN s i) (rd n ELEN s j)) (every (hasMark n s flag) (entries (at l) (rd n PE s j + 1) (rd n LEN s j - 1)))
+    all-three (eqb (rd n LEN s i) (rd n LEN s j)) (eqb (rd n ELEN s i) (rd n ELEN s j))
+    (every (hasMark n s flag) (entries (at l) (rd n PE s j + 1) (clipped (length l) (rd n PE s j + 1) (rd n LEN s j - 1))))
     ∙ rw (
+      clipped-all (length l) (rd n PE s j + 1) (rd n LEN s j - 1) (held-inside n l s g j hj),
       held-rest n l s g j hj,
       every-marked n flag s (entriesOf g i) m (entriesOf g j) b,
       eq-as (rd n LEN s i) (rd n LEN s j) (length (entriesOf g j)) (length (entriesOf g i)) (λ e. omega arith) (λ e. omega arith),

@@ -25,7 +25,7 @@ use Rattle.merging.specs.Rows.{Now, Row}
 use Rattle.merging.specs.Model.{Comparing, Merging, bucketRun, comparing, flagged, followers, markedList, mergedAt, mergedInto, merging, walked}
 use Rattle.merging.specs.declared.Tally.{Tally}
 use Rattle.merging.proofs.Kept.{Kept, entries-row, kept-fewer, kept-self, kept-then}
-use Rattle.merging.proofs.Marks.{held-rest, mark-below, mark-higher, markAll, marking-all, marks, marks-field, miss}
+use Rattle.merging.proofs.Marks.{held-inside, held-rest, mark-below, mark-higher, markAll, marking-all, marks, marks-field, miss}
 use Rattle.merging.proofs.Rows.{held, marks-now}
 use Rattle.merging.proofs.Walked.{Behind, Walked, oneKey, walked as along}
 use Rattle.merging.proofs.Walks.{run-over}
@@ -71,7 +71,8 @@ module _ (n : ℕ) (l : List ℤ) (p : ℕ) (new : List ℕ) (cnt base lim : ℕ
     is-marked : markedList l n (t .flag) i s ≡ sₘ
     unfolding markedList
     is-marked =
-        marking-all l n (t .flag) (rd n PE s i + 1) (rd n LEN s i - 1) s ∙ ap (λ (xs : List ℕ). markAll n (t .flag) xs s) (held-rest n l s h i (held s h (r .now) i ri))
+        marking-all l n (t .flag) (rd n PE s i + 1) (rd n LEN s i - 1) s (held-inside n l s h i (held s h (r .now) i ri))
+        ∙ ap (λ (xs : List ℕ). markAll n (t .flag) xs s) (held-rest n l s h i (held s h (r .now) i ri))
 
     behind : Behind n l p new cnt base lim i (t .flag) sₘ h i (rd n HNEXT sₘ i) (t .logged) js
     behind =

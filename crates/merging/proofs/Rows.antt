@@ -26,7 +26,9 @@ use Rattle.facts.proofs.Invariant.{var-not-merged}
 use Rattle.facts.proofs.Merging.{kind-kept, parent-kept, part-moved, weight-into, weight-kept}
 use Rattle.facts.proofs.Sizes.{sized-mergeInto}
 use Rattle.facts.specs.Invariant.{Sized}
+use Rattle.packed.proofs.Frame.{ends}
 use Rattle.packed.proofs.Spaces.{space-field}
+use Rattle.packed.specs.Places.{places}
 use Rattle.merging.specs.Rows.{Now, Row}
 use Rattle.merging.specs.Model.{joined}
 use Rattle.merging.proofs.Joins.{join-drawn}
@@ -68,6 +70,7 @@ module _ {n : ℕ} {l : List ℤ} {p : ℕ} {new : List ℕ} {cnt base lim log :
         first = p;
         rest = r .rest;
         elements = r .elements;
+        inside = λ z. omega (arith, ends l (places n s) lim (upd (listOf h) p new) (k .drawn .space .lists) v z, k .drawn .space .lists .fits);
       }
 
   both-weights : (i j : ℕ) → Row n p new h i → Row n p new h j → i ≢ j → Distinct new → weight h i + weight h j < 2 ^ 63

@@ -1,7 +1,7 @@
 -- Step 5 in memory: from the graph after step 4, with the kept rows in the buckets of their keys, to the definition's `mergedAlike`; the buckets are empty again, and the
 -- flag rose by at most one for each row that was compared. What it leaves of the memory beside, and that the marks still tell which elements are no more.
 -- Assumes nothing.
-use Prim.Native.Nat.{_+_, _<_, _≤_, _^_, ℕ}
+use Prim.Native.Nat.{_+_, _<_, _≤_, _^_, suc, zero, ℕ}
 use native.Mathlib.Omega.{arith}
 use mathlib.Core.Bool.{true, false}
 use mathlib.Core.List.{List, [], _∷_, foldl}
@@ -19,7 +19,9 @@ use Rattle.plain.proofs.Turns.{times-fold}
 use Rattle.plain.specs.Lists.{isNone, keep, member, total}
 use Rattle.plain.specs.Members.{Distinct, In}
 use Rattle.plain.specs.Turns.{entries}
+use Rattle.cells.proofs.Rows.{clipped-all}
 use Rattle.cells.specs.Layout.{HHEAD, HNEXT, LEN, MERGES, NV, PE, W}
+use Rattle.cells.specs.Rows.{clipped}
 use Rattle.cells.specs.View.{at, rd}
 use Rattle.definition.specs.Merge.{entriesOf, key, mergedAlike}
 use Rattle.definition.specs.State.{Graph, hasWeight, isElement, isVariable, kind, live, weight}
@@ -63,10 +65,16 @@ module _ (g : Graph) (new : List ℕ) where
       let c = total-within (λ x. 1) (newestFirst g new) new (newest-distinct d) d (λ x m. newest-kept x m .0) in
       omega arith
 
+-- a part that is there, or is none
+clipped-part : (size p k : ℕ) → (0 < k → p + k ≤ size) → clipped size p k ≡ k
+unfolding clipped
+clipped-part size p zero b = omega arith
+clipped-part size p (suc k) b = clipped-all size p (suc k) (b (omega arith))
+
 -- rows in one order, as a loop and as a fold
-rows-fold : (l : List ℤ) (n from k : ℕ) (m : Merging) → mergedRows l n from k m ≡ foldl (λ a x. mergedOf l n k x a) m (entries (at l) from k)
+rows-fold : (l : List ℤ) (n from k : ℕ) (m : Merging) → (0 < k → from + k ≤ length l) → mergedRows l n from k m ≡ foldl (λ a x. mergedOf l n k x a) m (entries (at l) from k)
 unfolding mergedRows mergedRow
-rows-fold l n from k m = times-fold (λ x a. mergedOf l n k x a) (at l) from k m
+rows-fold l n from k m b = rw (clipped-part (length l) from k b) (times-fold (λ x a. mergedOf l n k x a) (at l) from k m)
 
 -- what step 5 leaves: the graph h, from the flag on at most c flags used
 pub record Merged (n : ℕ) (l : List ℤ) (p : ℕ) (new : List ℕ) (cnt base lim : ℕ) (flag c : ℕ) (h : Graph) (m : Merging) : Type 0 where
@@ -100,7 +108,7 @@ no-bucket n nx x [] f c = c
 no-bucket n nx x (y ∷ ys) f c = absurd (f y (member-here y ys))
 
 module _ (n : ℕ) (l s : List ℤ) (keyOf : ℕ → ℕ) (g : Graph) (p : ℕ) (new : List ℕ) (cnt base lim : ℕ) (t : Tally) (a : Given n l s keyOf g p new cnt base lim t)
-    (from k : ℕ) (list : entries (at l) from k ≡ new) where
+    (from k : ℕ) (list : entries (at l) from k ≡ new) (inside : 0 < k → from + k ≤ length l) where
   long : length new ≡ k
   long = sym (ap length list) ∙ entries-length (at l) from k
 
@@ -160,7 +168,7 @@ module _ (n : ℕ) (l s : List ℤ) (keyOf : ℕ → ℕ) (g : Graph) (p : ℕ) 
   whole =
       let e = every-row n l p new cnt base lim (key keyOf g) (newestFirst g new) g s (t .flag) (a .once) (newest-distinct g new (a .once)) k (omega (arith, long, few))
       (omega (arith, a .room, few)) (a .inside) (kept-newest g new) (a .bucketed .below) new [] [] (merging s t) start (λ x m. m) in
-      rw (rows-fold l n from k (merging s t), list)
+      rw (rows-fold l n from k (merging s t) inside, list)
       (finished (foldl (λ b x. mergedOf l n k x b) (merging s t) new) (e .keys) (e .rows) (e .through) (e .all), e .through .kept)
 
   -- step 5 of the plan, in memory

@@ -10,10 +10,12 @@ use mathlib.Core.Logic.{_≢_}
 use mathlib.Core.Path.{_∙_, _≡_, ap, refl, subst, sym}
 use borrow.Author.Tests.{eq-eqb, le-ltb, lt-ltb, ne-eqb}
 use lib.IntN.{ℤ}
+use lib.ListN.{length}
 use Rattle.plain.proofs.Entries.{entries-snoc}
 use Rattle.plain.specs.Lists.{every}
 use Rattle.plain.specs.Turns.{entries}
 use Rattle.cells.specs.Layout.{HNEXT, W}
+use Rattle.cells.specs.Rows.{clipped}
 use Rattle.cells.specs.View.{at, rd}
 use Rattle.merging.specs.Model.{Comparing, Merging, allMarked, bucketRun, compared, comparing, followers, hasMark, mergedAt, mergedInto, merging}
 use Rattle.merging.specs.declared.Tally.{Tally}
@@ -61,14 +63,14 @@ module _ (l : List ℤ) (n : ℕ) (s : List ℤ) (p flag : ℕ) where
                 (every-snoc (hasMark n s flag) (entries (at l) p t) (at l (p + t)) (h .so) (eq-eqb (rd n W s (at l (p + t))) flag (is ∙ e)));
           }
 
-      pub marked-not : (k : ℕ) → w ≢ flag → t < k → false ≡ allMarked l n s p k flag
+      pub marked-not : (k c : ℕ) → c ≡ clipped (length l) p k → w ≢ flag → t < c → false ≡ allMarked l n s p k flag
       unfolding allMarked
-      marked-not k e lt =
-          sym (some-fails (hasMark n s flag) (at l) p k t lt (ne-eqb (rd n W s (at l (p + t))) flag (λ q. e (sym is ∙ q))))
+      marked-not k c hc e lt =
+          sym (some-fails (hasMark n s flag) (at l) p (clipped (length l) p k) t (rw hc at lt) (ne-eqb (rd n W s (at l (p + t))) flag (λ q. e (sym is ∙ q))))
 
-    pub marked-all : (k : ℕ) → k ≤ t → t ≤ k → true ≡ allMarked l n s p k flag
+    pub marked-all : (k c : ℕ) → c ≡ clipped (length l) p k → c ≤ t → t ≤ c → true ≡ allMarked l n s p k flag
     unfolding allMarked
-    marked-all k a b = sym (subst (λ (c : ℕ). every (hasMark n s flag) (entries (at l) p c) ≡ true) (omega arith) (h .so))
+    marked-all k c hc a b = sym (subst (λ (d : ℕ). every (hasMark n s flag) (entries (at l) p d) ≡ true) (omega arith) (h .so))
 
 -- ---- a walk: what is left to do gives what was to be done
 

@@ -5,19 +5,21 @@ use mathlib.Core.Bool.{Bool, false, cond}
 use mathlib.Core.List.{List}
 use lib.Dec.{eqb, ltb}
 use lib.IntN.{ℤ}
+use lib.ListN.{length}
 use Rattle.plain.specs.Lists.{every}
 use Rattle.plain.specs.Turns.{entries, times}
 use Rattle.cells.specs.Layout.{ELEN, HHEAD, HKEY, HNEXT, LEN, MERGES, NV, PE, W}
 use Rattle.cells.specs.Links.{hang, named}
+use Rattle.cells.specs.Rows.{clipped}
 use Rattle.cells.specs.View.{at, plus, rd, up}
 use Rattle.merging.specs.declared.Tally.{Tally}
 use Rattle.merging.specs.declared.Walk.{Walk}
 
 -- ---- marks
 
--- the rows in the k cells from p on are marked
+-- the rows in the k cells from p on, as far as they are there, are marked
 unfoldable pub marking : List ℤ → ℕ → ℕ → ℕ → ℕ → List ℤ → List ℤ
-marking l n flag p k s = times k (λ t m. up n W m (at l (p + t)) flag) s
+marking l n flag p k s = times (clipped (length l) p k) (λ t m. up n W m (at l (p + t)) flag) s
 
 -- the entries of i's list after the first are
 unfoldable pub markedList : List ℤ → ℕ → ℕ → ℕ → List ℤ → List ℤ
@@ -29,8 +31,9 @@ markedList l n flag i s = marking l n flag (rd n PE s i + 1) (rd n LEN s i - 1) 
 abbrev pub hasMark : ℕ → List ℤ → ℕ → ℕ → Bool
 hasMark n s flag x = eqb (rd n W s x) flag
 
+-- the rows in the k cells from p on, as far as they are there, are all marked
 unfoldable pub allMarked : List ℤ → ℕ → List ℤ → ℕ → ℕ → ℕ → Bool
-allMarked l n s p k flag = every (hasMark n s flag) (entries (at l) p k)
+allMarked l n s p k flag = every (hasMark n s flag) (entries (at l) p (clipped (length l) p k))
 
 -- the entries of j's list after the first, its length being len
 unfoldable pub tailMarked : List ℤ → ℕ → List ℤ → ℕ → ℕ → ℕ → Bool
@@ -58,8 +61,9 @@ joined n s i j log = up n MERGES (left n (weighed n s i j) i j) log j
 
 -- ---- a bucket
 
-pub record Slight (w : Walk) : Type 0 where
-  pub last : w .last < 2 ^ 63
+-- the walk stands behind a row, and its numbers fit a cell
+pub record Slight (n : ℕ) (w : Walk) : Type 0 where
+  pub last : w .last < n
   pub next : w .next < 2 ^ 63
   pub logged : w .logged < 2 ^ 63
 
@@ -138,5 +142,6 @@ mergedOf l n k i m = cond (ltb 0 (rd n NV (m .mem) i)) (mergedKey l n k (rd n HK
 unfoldable pub mergedRow : List ℤ → ℕ → ℕ → ℕ → Merging → Merging
 mergedRow l n k q m = mergedOf l n k (at l q) m
 
+-- the buckets of the rows in the k cells from `from` on, as far as they are there
 unfoldable pub mergedRows : List ℤ → ℕ → ℕ → ℕ → Merging → Merging
-mergedRows l n from k m = times k (λ t. mergedRow l n k (from + t)) m
+mergedRows l n from k m = times (clipped (length l) from k) (λ t. mergedRow l n k (from + t)) m

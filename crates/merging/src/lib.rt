@@ -1,9 +1,11 @@
 // Step 5 of a pivot: the rows of the new element that have one key stand in one bucket, linked newest first; of those, each is compared with the ones behind it, and
 // takes those that have its list. A walk along links makes at most as many turns as the new element has rows, so that it ends in any memory.
-// Nothing here asks for a memory that makes sense: a contract is the function's own model, and the laws of `proofs/` say what it does to the graph.
+// Nothing here asks for a memory that makes sense, but for rows in the list space: a contract is the function's own model, and the laws of `proofs/` say what it does to the graph.
 ghost use mathlib.Core.Path.{_≡_};
-ghost use Prim.Native.Nat.{_+_, _<_, _≤_, _^_};
+ghost use Prim.Native.Nat.{_<_, _^_};
+ghost use lib.ListN.{length};
 ghost use Rattle.cells.specs.View.{Room, at, up};
+ghost use Rattle.cells.specs.Rows.{Rows};
 ghost use Rattle.cells.specs.Layout.{W};
 ghost use Rattle.merging.specs.Model.{Bounded, Slight, comparing, merging, marking, markedList, allMarked, tailMarked, sameElements, alikeNow, weighed, left, joined, takenNext, compared, mergedInto, mergedAt, bucketRun, mergedKey, mergedRow, mergedRows};
 
@@ -24,45 +26,47 @@ pub struct Tally {
 
 // The row in cell `q` of the lists is marked.
 fn mark_one(lists: &[i64], s: &mut [i64], n: usize, q: usize, flag: usize)
-    requires { ⌜ Room n (now s) × (flag < 2 ^ 63) ⌝ }
+    requires { ⌜ Room n (now s) × Rows n (now lists) × (q < length (now lists)) × (flag < 2 ^ 63) ⌝ }
     ensures { λ _. ⌜ (now (s .exit) ≡ up n W (now (s .entry)) (at (now (lists .entry)) q) flag) × Room n (now (s .exit)) ⌝ }
 {
-    let x = cells::peek(lists, q);
-    cells::up(s, n, cells::W, x, flag);
+    let x = cells::row(lists, n, q);
+    cells::set(s, n, cells::W, x, flag);
 }
 
-// The rows in the `k` cells from `p` on are marked.
+// The rows in the `k` cells from `p` on, as far as they are there, are marked.
 fn mark_part(lists: &[i64], s: &mut [i64], n: usize, p: usize, k: usize, flag: usize)
-    requires { ⌜ Room n (now s) × (flag < 2 ^ 63) × (p ≤ 2 ^ 63) × (k < 2 ^ 63) ⌝ }
+    requires { ⌜ Room n (now s) × Rows n (now lists) × (flag < 2 ^ 63) ⌝ }
     ensures { λ _. ⌜ (now (s .exit) ≡ marking (now (lists .entry)) n flag p k (now (s .entry))) × Room n (now (s .exit)) ⌝ }
 {
-    for t in 0..k {
+    let m = cells::clip(lists.len(), p, k);
+    for t in 0..m {
         mark_one(lists, s, n, p + t, flag);
     }
 }
 
 // The entries of the list of `i` after the first are marked.
 fn mark_entries(lists: &[i64], s: &mut [i64], n: usize, i: usize, flag: usize)
-    requires { ⌜ Room n (now s) × (flag < 2 ^ 63) ⌝ }
+    requires { ⌜ Room n (now s) × Rows n (now lists) × (i < n) × (flag < 2 ^ 63) ⌝ }
     ensures { λ _. ⌜ (now (s .exit) ≡ markedList (now (lists .entry)) n flag i (now (s .entry))) × Room n (now (s .exit)) ⌝ }
 {
-    let p = cells::rd(s, n, cells::PE, i);
-    let k = cells::rd(s, n, cells::LEN, i);
+    let p = cells::get(s, n, cells::PE, i);
+    let k = cells::get(s, n, cells::LEN, i);
     let rest = cells::less(k, 1);
     mark_part(lists, s, n, p + 1, rest, flag);
 }
 
 // ---- the comparison
 
-// Are the rows in the `k` cells from `p` on all marked?
+// Are the rows in the `k` cells from `p` on, as far as they are there, all marked?
 fn all_marked(lists: &[i64], s: &[i64], n: usize, p: usize, k: usize, flag: usize) -> bool
-    requires { ⌜ Room n (now s) × (p ≤ 2 ^ 63) × (k < 2 ^ 63) ⌝ }
+    requires { ⌜ Room n (now s) × Rows n (now lists) ⌝ }
     ensures { λ r. ⌜ r ≡ allMarked (now (lists .entry)) n (now (s .entry)) p k flag ⌝ }
 {
+    let m = cells::clip(lists.len(), p, k);
     let mut t = 0;
-    'entries: while t < k {
-        let x = cells::peek(lists, p + t);
-        let w = cells::rd(s, n, cells::W, x);
+    'entries: while t < m {
+        let x = cells::row(lists, n, p + t);
+        let w = cells::get(s, n, cells::W, x);
         if w == flag {
             t += 1;
             continue 'entries;
@@ -74,10 +78,10 @@ fn all_marked(lists: &[i64], s: &[i64], n: usize, p: usize, k: usize, flag: usiz
 
 // Are the entries of the list of `j` after the first, `len` being its length, all marked?
 fn tail_marked(lists: &[i64], s: &[i64], n: usize, j: usize, len: usize, flag: usize) -> bool
-    requires { ⌜ Room n (now s) × (len < 2 ^ 63) ⌝ }
+    requires { ⌜ Room n (now s) × Rows n (now lists) × (j < n) ⌝ }
     ensures { λ r. ⌜ r ≡ tailMarked (now (lists .entry)) n (now (s .entry)) j len flag ⌝ }
 {
-    let p = cells::rd(s, n, cells::PE, j);
+    let p = cells::get(s, n, cells::PE, j);
     let rest = cells::less(len, 1);
     all_marked(lists, s, n, p + 1, rest, flag)
 }
@@ -92,11 +96,11 @@ fn same_elements(
     len: usize,
     flag: usize,
 ) -> bool
-    requires { ⌜ Room n (now s) × (len < 2 ^ 63) ⌝ }
+    requires { ⌜ Room n (now s) × Rows n (now lists) × (i < n) × (j < n) ⌝ }
     ensures { λ r. ⌜ r ≡ sameElements (now (lists .entry)) n (now (s .entry)) i j len flag ⌝ }
 {
-    let a = cells::rd(s, n, cells::ELEN, i);
-    let b = cells::rd(s, n, cells::ELEN, j);
+    let a = cells::get(s, n, cells::ELEN, i);
+    let b = cells::get(s, n, cells::ELEN, j);
     if a == b {
         tail_marked(lists, s, n, j, len, flag)
     } else {
@@ -106,11 +110,11 @@ fn same_elements(
 
 // Has `j` the list of `i`, whose entries are marked? Never read past the list of `j`.
 fn alike(lists: &[i64], s: &[i64], n: usize, i: usize, j: usize, flag: usize) -> bool
-    requires { ⌜ Room n (now s) ⌝ }
+    requires { ⌜ Room n (now s) × Rows n (now lists) × (i < n) × (j < n) ⌝ }
     ensures { λ r. ⌜ r ≡ alikeNow (now (lists .entry)) n (now (s .entry)) i j flag ⌝ }
 {
-    let a = cells::rd(s, n, cells::LEN, i);
-    let b = cells::rd(s, n, cells::LEN, j);
+    let a = cells::get(s, n, cells::LEN, i);
+    let b = cells::get(s, n, cells::LEN, j);
     if a == b {
         same_elements(lists, s, n, i, j, b, flag)
     } else {
@@ -122,28 +126,28 @@ fn alike(lists: &[i64], s: &[i64], n: usize, i: usize, j: usize, flag: usize) ->
 
 // The weight of `j` goes to `i`.
 fn add_weight(s: &mut [i64], n: usize, i: usize, j: usize)
-    requires { ⌜ Room n (now s) ⌝ }
+    requires { ⌜ Room n (now s) × (i < n) × (j < n) ⌝ }
     ensures { λ _. ⌜ (now (s .exit) ≡ weighed n (now (s .entry)) i j) × Room n (now (s .exit)) ⌝ }
 {
-    let a = cells::tab(s, n, cells::NV, i);
-    let b = cells::tab(s, n, cells::NV, j);
+    let a = cells::look(s, n, cells::NV, i);
+    let b = cells::look(s, n, cells::NV, j);
     let c = cells::plus(a, b);
-    cells::put(s, n, cells::NV, i, c);
-    cells::put(s, n, cells::NV, j, 0);
+    cells::note(s, n, cells::NV, i, c);
+    cells::note(s, n, cells::NV, j, 0);
 }
 
 // Row `j` has no list any more, and hangs from `i`.
 fn leave(s: &mut [i64], n: usize, i: usize, j: usize)
-    requires { ⌜ Room n (now s) ⌝ }
+    requires { ⌜ Room n (now s) × (j < n) ⌝ }
     ensures { λ _. ⌜ (now (s .exit) ≡ left n (now (s .entry)) i j) × Room n (now (s .exit)) ⌝ }
 {
-    cells::up(s, n, cells::LEN, j, 0);
+    cells::set(s, n, cells::LEN, j, 0);
     cells::put_parent(s, n, j, i);
 }
 
 // Row `j` is merged into `i`, as merge number `logged`.
 fn merge(s: &mut [i64], n: usize, i: usize, j: usize, logged: usize)
-    requires { ⌜ Room n (now s) × (j < 2 ^ 63) ⌝ }
+    requires { ⌜ Room n (now s) × (i < n) × (j < n) ⌝ }
     ensures { λ _. ⌜ (now (s .exit) ≡ joined n (now (s .entry)) i j logged) × Room n (now (s .exit)) ⌝ }
 {
     add_weight(s, n, i, j);
@@ -155,11 +159,11 @@ fn merge(s: &mut [i64], n: usize, i: usize, j: usize, logged: usize)
 
 // The next row of the walk, which `next` stands behind, is merged into `i` and leaves the bucket.
 fn take_next(s: &mut [i64], n: usize, i: usize, next: usize, w: Walk) -> Walk
-    requires { ⌜ Room n (now s) × (next < 2 ^ 63) × Slight w ⌝ }
-    ensures { λ r. ⌜ (comparing (now (s .exit)) r ≡ takenNext n i next (comparing (now (s .entry)) w)) × Room n (now (s .exit)) × Slight r ⌝ }
+    requires { ⌜ Room n (now s) × (i < n) × (next < 2 ^ 63) × (w .next < n) × Slight n w ⌝ }
+    ensures { λ r. ⌜ (comparing (now (s .exit)) r ≡ takenNext n i next (comparing (now (s .entry)) w)) × Room n (now (s .exit)) × Slight n r ⌝ }
 {
     merge(s, n, i, w.next, w.logged);
-    cells::put(s, n, cells::HNEXT, w.last, next);
+    cells::note(s, n, cells::HNEXT, w.last, next);
     let logged = cells::plus(w.logged, 1);
     Walk {
         last: w.last,
@@ -170,10 +174,10 @@ fn take_next(s: &mut [i64], n: usize, i: usize, next: usize, w: Walk) -> Walk
 
 // The same if it has the list of `i`; if not, it is passed by.
 fn compare_next(lists: &[i64], s: &mut [i64], n: usize, i: usize, flag: usize, w: Walk) -> Walk
-    requires { ⌜ Room n (now s) × Slight w ⌝ }
-    ensures { λ r. ⌜ (comparing (now (s .exit)) r ≡ compared (now (lists .entry)) n i flag (comparing (now (s .entry)) w)) × Room n (now (s .exit)) × Slight r ⌝ }
+    requires { ⌜ Room n (now s) × Rows n (now lists) × (i < n) × (w .next < n) × Slight n w ⌝ }
+    ensures { λ r. ⌜ (comparing (now (s .exit)) r ≡ compared (now (lists .entry)) n i flag (comparing (now (s .entry)) w)) × Room n (now (s .exit)) × Slight n r ⌝ }
 {
-    let next = cells::tab(s, n, cells::HNEXT, w.next);
+    let next = cells::look(s, n, cells::HNEXT, w.next);
     if alike(lists, s, n, i, w.next, flag) {
         take_next(s, n, i, next, w)
     } else {
@@ -187,10 +191,10 @@ fn compare_next(lists: &[i64], s: &mut [i64], n: usize, i: usize, flag: usize, w
 
 // Each row behind `i` in its bucket, at most `k`, that has the marked entries of `i` is merged into it. The result is how many merges are logged.
 fn merge_into(lists: &[i64], s: &mut [i64], n: usize, i: usize, k: usize, t: Tally) -> usize
-    requires { ⌜ Room n (now s) × (i < 2 ^ 63) × Bounded t ⌝ }
+    requires { ⌜ Room n (now s) × Rows n (now lists) × (i < n) × Bounded t ⌝ }
     ensures { λ r. ⌜ (merging (now (s .exit)) (record { flag = t .flag; logged = r }) ≡ mergedInto (now (lists .entry)) n k i (merging (now (s .entry)) t)) × Room n (now (s .exit)) × (r < 2 ^ 63) ⌝ }
 {
-    let first = cells::tab(s, n, cells::HNEXT, i);
+    let first = cells::look(s, n, cells::HNEXT, i);
     let mut w = Walk {
         last: i,
         next: first,
@@ -211,10 +215,10 @@ fn merge_into(lists: &[i64], s: &mut [i64], n: usize, i: usize, k: usize, t: Tal
 
 // Row `i` takes those behind it in its bucket that have its list; the flag is used up, if there is anybody behind it.
 fn merge_at(lists: &[i64], s: &mut [i64], n: usize, i: usize, k: usize, t: Tally) -> Tally
-    requires { ⌜ Room n (now s) × (i < 2 ^ 63) × Bounded t ⌝ }
+    requires { ⌜ Room n (now s) × Rows n (now lists) × (i < n) × Bounded t ⌝ }
     ensures { λ r. ⌜ (merging (now (s .exit)) r ≡ mergedAt (now (lists .entry)) n k i (merging (now (s .entry)) t)) × Room n (now (s .exit)) × Bounded r ⌝ }
 {
-    let behind = cells::tab(s, n, cells::HNEXT, i);
+    let behind = cells::look(s, n, cells::HNEXT, i);
     if behind < n {
         mark_entries(lists, s, n, i, t.flag);
         let logged = merge_into(lists, s, n, i, k, t);
@@ -237,7 +241,7 @@ fn merge_bucket(
     k: usize,
     start: Tally,
 ) -> Tally
-    requires { ⌜ Room n (now s) × (first < 2 ^ 63) × Bounded start ⌝ }
+    requires { ⌜ Room n (now s) × Rows n (now lists) × (first < 2 ^ 63) × Bounded start ⌝ }
     ensures { λ r. ⌜ (merging (now (s .exit)) r ≡ bucketRun (now (lists .entry)) n k k first (merging (now (s .entry)) start)) × Room n (now (s .exit)) × Bounded r ⌝ }
 {
     let mut i = first;
@@ -252,7 +256,7 @@ fn merge_bucket(
         }
         todo -= 1;
         t = merge_at(lists, s, n, i, k, t);
-        i = cells::tab(s, n, cells::HNEXT, i);
+        i = cells::look(s, n, cells::HNEXT, i);
     }
 }
 
@@ -260,7 +264,7 @@ fn merge_bucket(
 
 // The bucket of `key` is emptied, and its rows compared.
 fn merge_key(lists: &[i64], s: &mut [i64], n: usize, key: usize, k: usize, t: Tally) -> Tally
-    requires { ⌜ Room n (now s) × Bounded t ⌝ }
+    requires { ⌜ Room n (now s) × Rows n (now lists) × Bounded t ⌝ }
     ensures { λ r. ⌜ (merging (now (s .exit)) r ≡ mergedKey (now (lists .entry)) n k key (merging (now (s .entry)) t)) × Room n (now (s .exit)) × Bounded r ⌝ }
 {
     let first = cells::tab(s, n, cells::HHEAD, key);
@@ -270,13 +274,13 @@ fn merge_key(lists: &[i64], s: &mut [i64], n: usize, key: usize, k: usize, t: Ta
 
 // The bucket of the row in cell `q` of the lists, if that row is still there.
 fn merge_row(lists: &[i64], s: &mut [i64], n: usize, q: usize, k: usize, t: Tally) -> Tally
-    requires { ⌜ Room n (now s) × Bounded t ⌝ }
+    requires { ⌜ Room n (now s) × Rows n (now lists) × (q < length (now lists)) × Bounded t ⌝ }
     ensures { λ r. ⌜ (merging (now (s .exit)) r ≡ mergedRow (now (lists .entry)) n k q (merging (now (s .entry)) t)) × Room n (now (s .exit)) × Bounded r ⌝ }
 {
-    let i = cells::peek(lists, q);
-    let weight = cells::tab(s, n, cells::NV, i);
+    let i = cells::row(lists, n, q);
+    let weight = cells::look(s, n, cells::NV, i);
     if 0 < weight {
-        let key = cells::tab(s, n, cells::HKEY, i);
+        let key = cells::look(s, n, cells::HKEY, i);
         merge_key(lists, s, n, key, k, t)
     } else {
         t
@@ -292,11 +296,12 @@ pub fn merge_all(
     k: usize,
     start: Tally,
 ) -> Tally
-    requires { ⌜ Room n (now s) × (from < 2 ^ 63) × (k < 2 ^ 63) × Bounded start ⌝ }
+    requires { ⌜ Room n (now s) × Rows n (now lists) × Bounded start ⌝ }
     ensures { λ r. ⌜ (merging (now (s .exit)) r ≡ mergedRows (now (lists .entry)) n from k (merging (now (s .entry)) start)) × Room n (now (s .exit)) × Bounded r ⌝ }
 {
+    let m = cells::clip(lists.len(), from, k);
     let mut t = start;
-    for i in 0..k {
+    for i in 0..m {
         t = merge_row(lists, s, n, from + i, k, t);
     }
     t

@@ -10,4 +10,5 @@ pub mod Transposing
 pub mod Copying
 pub mod Source
 pub mod Taking
+pub mod Swept
 pub mod Example

@@ -1,5 +1,5 @@
 -- An accepted problem, from its slices to the lists of A+A': the cleaned columns in the scratch, and from these the graph that the elimination starts from.
--- Whatever the scratch and the lists held before.
+-- Whatever the lists held before, and the scratch too, as long as it is a room.
 -- Assumes nothing.
 use Prim.Native.Nat.{ℕ, _+_, _*_, _≤_, _<_, _^_}
 use native.Mathlib.Omega.{arith}
@@ -26,10 +26,7 @@ use Rattle.pattern.specs.Model.{copied, transposed, tidied, built, built
 use Rattle.pattern.proofs.Source.{pointer-at, source-stands}
 use Rattle.pattern.proofs.Copying.{copied-rep, copied-wide, copied-room}
 use Rattle.pattern.proofs.Transposing.{transposed-rep, transposed-wide, transposed-room}
-use Rattle.pattern.proofs.Building.{built-rep, built-long, built-wide}
-
-room-of : (n c : ℕ) (s : List ℤ) → c + 16 * n + 16 ≤ length s → Room n s
-room-of n c s h = record { room = omega arith }
+use Rattle.pattern.proofs.Building.{built-rep, built-long, built-wide, built-room}
 
 spare-of : (n c : ℕ) (s : List ℤ) → c + 16 * n + 16 ≤ length s → c ≤ spare n s
 unfolding spare
@@ -45,7 +42,7 @@ pub record Cleansed (p : Problem) (s s′ : List ℤ) : Type 0 where
   pub room : Room (columnCount (p .pattern)) s′
   pub wide : length s′ ≡ length s
 
-module _ (p : Problem) (ok : Accepted p) (s : List ℤ) (fits : nnz (p .pattern) + 16 * columnCount (p .pattern) + 16 ≤ length s) where
+module _ (p : Problem) (ok : Accepted p) (s : List ℤ) (calm : Room (columnCount (p .pattern)) s) (fits : nnz (p .pattern) + 16 * columnCount (p .pattern) + 16 ≤ length s) where
   abbrev a : Pattern
   a = p .pattern
 
@@ -59,9 +56,9 @@ module _ (p : Problem) (ok : Accepted p) (s : List ℤ) (fits : nnz (p .pattern)
   by-copy h =
       let f : at (a .pointers) n ≤ spare n s = rw (pointer-at p ok n) (spare-of n (nnz a) s fits) in
       record {
-        columned = rw (cleaned-same (columns a) h) (copied-rep n (columns a) (a .pointers) (a .rows) s (source-stands p ok) (room-of n (nnz a) s fits) f);
-        room = copied-room n (columns a) (a .pointers) (a .rows) s (source-stands p ok) (room-of n (nnz a) s fits) f;
-        wide = copied-wide n (columns a) (a .pointers) (a .rows) s (source-stands p ok) (room-of n (nnz a) s fits) f;
+        columned = rw (cleaned-same (columns a) h) (copied-rep n (columns a) (a .pointers) (a .rows) s (source-stands p ok) calm f);
+        room = copied-room n (columns a) (a .pointers) (a .rows) s (source-stands p ok) calm f;
+        wide = copied-wide n (columns a) (a .pointers) (a .rows) s (source-stands p ok) calm f;
       }
 
   by-transpose : jumbled (columns a) ≡ true → Cleansed p s (transposed n (a .pointers) (a .rows) s)
@@ -69,11 +66,10 @@ module _ (p : Problem) (ok : Accepted p) (s : List ℤ) (fits : nnz (p .pattern)
       let e : total length (D.transposed (columns a)) ≤ nnz a = rw (← cleaned-jumbled (columns a) h) (cleaned-entries p ok) in
       let f : total length (D.transposed (columns a)) ≤ spare n s = omega (arith, e, spare-of n (nnz a) s fits) in
       let g : total length (D.transposed (columns a)) < 2 ^ 63 = omega (arith, e, small-numbers p ok) in
-      let r = room-of n (nnz a) s fits in
       record {
-        columned = rw (cleaned-jumbled (columns a) h) (transposed-rep n (columns a) (a .pointers) (a .rows) s (source-stands p ok) (length-columns p ok) cols-inside r f g);
-        room = transposed-room n (columns a) (a .pointers) (a .rows) s (source-stands p ok) (length-columns p ok) cols-inside r f g;
-        wide = transposed-wide n (columns a) (a .pointers) (a .rows) s (source-stands p ok) (length-columns p ok) cols-inside r f g;
+        columned = rw (cleaned-jumbled (columns a) h) (transposed-rep n (columns a) (a .pointers) (a .rows) s (source-stands p ok) (length-columns p ok) cols-inside calm f g);
+        room = transposed-room n (columns a) (a .pointers) (a .rows) s (source-stands p ok) (length-columns p ok) cols-inside calm f g;
+        wide = transposed-wide n (columns a) (a .pointers) (a .rows) s (source-stands p ok) (length-columns p ok) cols-inside calm f g;
       }
 
   tidied-by : (b : Bool) → jumbled (columns a) ≡ b → Cleansed p s (tidied n (a .pointers) (a .rows) b s)
@@ -118,3 +114,8 @@ module _ (p : Problem) (ok : Accepted p) (s : List ℤ) (fits : nnz (p .pattern)
     taken-wide =
         let c = cleaned-rep b e in
         built-wide n (cleaned (columns a)) l t (c .columned) (length-cleaned-columns p ok) inside (c .room) enough short ∙ c .wide
+
+    pub taken-room : Room (columnCount (p .pattern)) (built (columnCount (p .pattern)) l (tidied (columnCount (p .pattern)) (p .pattern .pointers) (p .pattern .rows) b s) .mem)
+    taken-room =
+        let c = cleaned-rep b e in
+        built-room n (cleaned (columns a)) l t (c .columned) (length-cleaned-columns p ok) inside (c .room) enough short

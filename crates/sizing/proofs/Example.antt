@@ -7,6 +7,7 @@ use lib.IntN.{pos, ℤ}
 use lib.ListN.{replicate}
 use Rattle.plain.specs.Turns.{entries, times}
 use Rattle.cells.specs.Layout.{W}
+use Rattle.cells.specs.Rows.{clipped}
 use Rattle.cells.specs.View.{at, place, plus, rd, up, within, wr}
 use Rattle.sizing.specs.Model.{sizedAll, sizedAt, sizedElement, sizedFirst, sizedOf, sizedPart, sizedRow}
 
@@ -23,5 +24,5 @@ space : List ℤ
 space = map pos (0 ∷ 1 ∷ 2 ∷ 4 ∷ 3 ∷ 2 ∷ 0 ∷ [])
 
 marks : entries (rd 5 W (sizedAll 5 space 10 0 2 scratch)) 0 5 ≡ 1 ∷ 1 ∷ 12 ∷ 11 ∷ 0 ∷ []
-unfolding sizedAll sizedRow sizedOf sizedPart sizedAt sizedElement sizedFirst times entries plus at wr rd up place within scratch space
+unfolding sizedAll sizedRow sizedOf sizedPart sizedAt sizedElement sizedFirst times entries clipped plus at wr rd up place within scratch space
 marks = refl

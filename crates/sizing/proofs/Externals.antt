@@ -16,7 +16,7 @@ use Rattle.plain.proofs.Members.{member-flatMap, member-joined, no-member}
 use Rattle.plain.proofs.Sums.{total-members}
 use Rattle.plain.specs.Lists.{isNone, member, total}
 use Rattle.plain.specs.Members.{In}
-use Rattle.plain.specs.Turns.{entries}
+use Rattle.plain.specs.Turns.{entries, upd}
 use Rattle.definition.specs.Pivot.{collected, passed}
 use Rattle.definition.specs.State.{Graph, Kind, State, degree, elementsOf, hasWeight, isElement, isVariable, kind, live, merged, parent, variablesOf, weight}
 use Rattle.definition.specs.Trim.{external}
@@ -34,6 +34,8 @@ use Rattle.cells.specs.View.{at, rd}
 use Rattle.drawn.specs.Drawn.{Within, listOf}
 use Rattle.drawn.specs.Flags.{Flagged}
 use Rattle.sizing.specs.Counters.{shared}
+use Rattle.packed.proofs.Frame.{ends}
+use Rattle.packed.specs.Places.{places}
 use Rattle.sizing.specs.Model.{sizedAll}
 use Rattle.sizing.specs.Outside.{Outside}
 use Rattle.sizing.specs.Sizes.{Listed, Measured, Ready}
@@ -105,17 +107,22 @@ module _ {n : ℕ} (st : State) (v : Inv n st) (p : ℕ) (pv : Var (st .graph) p
       let w : hasWeight g₁ i ≡ true = ap (λ (x : ℕ). ltb 0 x) (weights i) ∙ var-weighs (v .graph) i (row i m) in
       rw (and-both (hasWeight g₁ i) (live g₁ i) w (row-live i m))
 
+  -- a list lies inside the list space
+  list-inside : (i : ℕ) → 0 < rd n LEN s i → rd n PE s i + rd n LEN s i ≤ length l
+  list-inside i z = omega (arith, ends l (places n s) lim (upd (listOf g₁) p new) (h .space .lists) i z, h .space .lists .fits)
+
   listed : Listed n l s (elementsOf g₁) new
   listed i m =
       let a = h .space .lists .lists i ∙ upd-other (listOf g₁) p new i (collected-apart g p i m) ∙ row-list i m in
       let e : rd n ELEN s i ≡ length (elementsOf g₁ i) = h .elens i (ap isVariable (kinds i) ∙ row i m) in
-      (rw e (entries-front (at l) (rd n PE s i) (rd n LEN s i) (elementsOf g₁ i) (variablesOf g₁ i) a), rw (elements i) (v .graph .distinct-elements i (row i m)))
+      let k : rd n LEN s i ≡ length (elementsOf g₁ i ++ variablesOf g₁ i) = sym (entries-length (at l) (rd n PE s i) (rd n LEN s i)) ∙ ap length a in
+      (rw e (entries-front (at l) (rd n PE s i) (rd n LEN s i) (elementsOf g₁ i) (variablesOf g₁ i) a), rw (elements i) (v .graph .distinct-elements i (row i m)), λ z. omega (arith, e, k, front-short (elementsOf g₁ i) (variablesOf g₁ i), list-inside i (omega (arith, e, k, z, front-short (elementsOf g₁ i) (variablesOf g₁ i)))))
+
+  new-length : rd n LEN s p ≡ length new
+  new-length = sym (entries-length (at l) (rd n PE s p) (rd n LEN s p)) ∙ ap length (h .space .lists .lists p ∙ upd-same (listOf g₁) p new)
 
   rows : entries (at l) (rd n PE s p) (length new) ≡ new
-  rows =
-      let a = h .space .lists .lists p ∙ upd-same (listOf g₁) p new in
-      let k : rd n LEN s p ≡ length new = sym (entries-length (at l) (rd n PE s p) (rd n LEN s p)) ∙ ap length a in
-      rw (← k) a
+  rows = rw (← new-length) (h .space .lists .lists p ∙ upd-same (listOf g₁) p new)
 
   below : (e : ℕ) → rd n W s e < flag
   below e = by-size (split e n)
@@ -166,6 +173,7 @@ module _ {n : ℕ} (st : State) (v : Inv n st) (p : ℕ) (pv : Var (st .graph) p
       record {
         room = h .space .room;
         rows = rows;
+        inside = λ z. omega (arith, new-length, list-inside p (omega (arith, new-length, z)));
         lists = listed;
         below = below;
         small = λ e w m. let r = member-flatMap e (elementsOf g₁) new m in fits e (r .0) (r .1) (r .2);

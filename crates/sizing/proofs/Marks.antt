@@ -1,6 +1,6 @@
 -- What the model does to the marks, and that it does nothing else: each mark goes its own way, row by row.
 -- Assumes nothing.
-use Prim.Native.Nat.{_-_, _<_, _≤_, ℕ}
+use Prim.Native.Nat.{_+_, _-_, _<_, _≤_, ℕ}
 use native.Mathlib.Omega.{arith}
 use mathlib.Core.Bool.{cond, false, _||_}
 use mathlib.Core.List.{List, [], _∷_, foldl}
@@ -15,11 +15,13 @@ use Rattle.plain.proofs.Members.{member-here, member-there}
 use Rattle.plain.proofs.Turns.{times-fold}
 use Rattle.plain.specs.Lists.{member}
 use Rattle.plain.specs.Members.{Distinct}
-use Rattle.plain.specs.Turns.{entries}
+use Rattle.plain.specs.Turns.{entries, times}
 use Rattle.cells.proofs.Fields.{length-up, rd-null, rd-up-same, room-up}
 use Rattle.cells.proofs.Laws.{parent-up-field, rd-up-cell′, rd-up-field}
+use Rattle.cells.proofs.Rows.{clipped-part}
 use Rattle.cells.proofs.Slices.{same?, split}
 use Rattle.cells.specs.Layout.{DEGREE, ELEN, NV, PE, W}
+use Rattle.cells.specs.Rows.{clipped}
 use Rattle.cells.specs.View.{Room, at, plus, rd, up}
 use Rattle.sizing.specs.Counters.{counted, lessened, passing}
 use Rattle.sizing.specs.Sizes.{Kept, Listed}
@@ -127,20 +129,31 @@ module _ (n : ℕ) where
 -- ---- the elements of the rows
 
 module _ (n : ℕ) (l : List ℤ) (flag : ℕ) where
-  of-fold : (i : ℕ) (s : List ℤ) (es : List ℕ) → entries (at l) (rd n PE s i) (rd n ELEN s i) ≡ es → sizedOf n l flag i s ≡ partFold n (rd n NV s i) flag s es
+  -- those that are there
+  of-there : (i : ℕ) (s : List ℤ) → sizedOf n l flag i s ≡ partFold n (rd n NV s i) flag s (entries (at l) (rd n PE s i) (clipped (length l) (rd n PE s i) (rd n ELEN s i)))
   unfolding sizedOf sizedPart sizedAt
-  of-fold i s es h =
-      times-fold (λ e a. sizedElement n (rd n NV s i) flag e a) (at l) (rd n PE s i) (rd n ELEN s i) s
-      ∙ ap (foldl (λ a e. sizedElement n (rd n NV s i) flag e a) s) h
+  of-there i s = times-fold (λ e a. sizedElement n (rd n NV s i) flag e a) (at l) (rd n PE s i) (clipped (length l) (rd n PE s i) (rd n ELEN s i)) s
 
-  pub all-fold : (from k : ℕ) (s : List ℤ) (new : List ℕ) → entries (at l) from k ≡ new → sizedAll n l flag from k s ≡ foldl (λ a i. sizedOf n l flag i a) s new
-  unfolding sizedAll sizedRow
-  all-fold from k s new h = times-fold (λ i a. sizedOf n l flag i a) (at l) from k s ∙ ap (foldl (λ a i. sizedOf n l flag i a) s) h
+  of-fold : (i : ℕ) (s : List ℤ) (es : List ℕ) → (0 < rd n ELEN s i → rd n PE s i + rd n ELEN s i ≤ length l) → entries (at l) (rd n PE s i) (rd n ELEN s i) ≡ es
+      → sizedOf n l flag i s ≡ partFold n (rd n NV s i) flag s es
+  of-fold i s es b h =
+      of-there i s
+      ∙ ap (λ (k : ℕ). partFold n (rd n NV s i) flag s (entries (at l) (rd n PE s i) k)) (clipped-part (length l) (rd n PE s i) (rd n ELEN s i) b)
+      ∙ ap (partFold n (rd n NV s i) flag s) h
+
+  turns-fold : (from k : ℕ) (s : List ℤ) → times k (λ t. sizedRow n l flag (from + t)) s ≡ foldl (λ a i. sizedOf n l flag i a) s (entries (at l) from k)
+  unfolding sizedRow
+  turns-fold from k s = times-fold (λ i a. sizedOf n l flag i a) (at l) from k s
+
+  pub all-fold : (from k : ℕ) (s : List ℤ) (new : List ℕ) → (0 < k → from + k ≤ length l) → entries (at l) from k ≡ new → sizedAll n l flag from k s ≡ foldl (λ a i. sizedOf n l flag i a) s new
+  unfolding sizedAll
+  all-fold from k s new b h =
+      turns-fold from (clipped (length l) from k) s
+      ∙ ap (λ (j : ℕ). foldl (λ a i. sizedOf n l flag i a) s (entries (at l) from j)) (clipped-part (length l) from k b)
+      ∙ ap (foldl (λ a i. sizedOf n l flag i a) s) h
 
   kept-of : (i : ℕ) (s : List ℤ) → Room n s → Kept n s (sizedOf n l flag i s)
-  kept-of i s r =
-      rw (of-fold i s (entries (at l) (rd n PE s i) (rd n ELEN s i)) refl)
-      (kept-part n (rd n NV s i) flag (entries (at l) (rd n PE s i) (rd n ELEN s i)) s r)
+  kept-of i s r = rw (of-there i s) (kept-part n (rd n NV s i) flag (entries (at l) (rd n PE s i) (clipped (length l) (rd n PE s i) (rd n ELEN s i))) s r)
 
   kept-rows : (new : List ℕ) (s : List ℤ) → Room n s → Kept n s (foldl (λ a i. sizedOf n l flag i a) s new)
   kept-rows [] s r = kept-none n s r
@@ -148,15 +161,20 @@ module _ (n : ℕ) (l : List ℤ) (flag : ℕ) where
       let a = kept-of i s r in
       kept-more n s (sizedOf n l flag i s) (foldl (λ a i. sizedOf n l flag i a) (sizedOf n l flag i s) new) a (kept-rows new (sizedOf n l flag i s) (a .room))
 
+  pub kept-turns : (from k : ℕ) (s : List ℤ) → Room n s → Kept n s (times k (λ t. sizedRow n l flag (from + t)) s)
+  kept-turns from k s r = rw (turns-fold from k s) (kept-rows (entries (at l) from k) s r)
+
   pub kept-all : (from k : ℕ) (s : List ℤ) → Room n s → Kept n s (sizedAll n l flag from k s)
-  kept-all from k s r = rw (all-fold from k s (entries (at l) from k) refl) (kept-rows (entries (at l) from k) s r)
+  unfolding sizedAll
+  kept-all from k s r = kept-turns from (clipped (length l) from k) s r
 
   module _ (s : List ℤ) (E : ℕ → List ℕ) (e : ℕ) where
-    mark-of : (t : List ℤ) → Kept n s t → (i : ℕ) → entries (at l) (rd n PE s i) (rd n ELEN s i) ≡ E i → Distinct (E i)
+    mark-of : (t : List ℤ) → Kept n s t → (i : ℕ) → (0 < rd n ELEN s i → rd n PE s i + rd n ELEN s i ≤ length l) → entries (at l) (rd n PE s i) (rd n ELEN s i) ≡ E i → Distinct (E i)
         → rd n W (sizedOf n l flag i t) e ≡ passing flag E (rd n NV s) (rd n DEGREE s e) e (rd n W t e) i
-    mark-of t k i h d =
+    mark-of t k i b h d =
+        let b′ : 0 < rd n ELEN t i → rd n PE t i + rd n ELEN t i ≤ length l = rw (k .fields PE i refl, k .fields ELEN i refl) b in
         let h′ : entries (at l) (rd n PE t i) (rd n ELEN t i) ≡ E i = rw (k .fields PE i refl, k .fields ELEN i refl) h in
-        rw (of-fold i t (E i) h′, ← k .fields NV i refl, ← k .fields DEGREE e refl) (mark-part n (rd n NV t i) flag e (E i) t (k .room) d)
+        rw (of-fold i t (E i) b′ h′, ← k .fields NV i refl, ← k .fields DEGREE e refl) (mark-part n (rd n NV t i) flag e (E i) t (k .room) d)
 
     mark-rows : (new : List ℕ) (t : List ℤ) → Kept n s t → Listed n l s E new
         → rd n W (foldl (λ a i. sizedOf n l flag i a) t new) e ≡ foldl (passing flag E (rd n NV s) (rd n DEGREE s e) e) (rd n W t e) new
@@ -164,10 +182,10 @@ module _ (n : ℕ) (l : List ℤ) (flag : ℕ) where
     mark-rows (i ∷ new) t k h =
         let a = h i (member-here i new) in
         mark-rows new (sizedOf n l flag i t) (kept-more n s t (sizedOf n l flag i t) k (kept-of i t (k .room))) (λ j m. h j (member-there j i new m))
-        ∙ ap (λ (y : ℕ). foldl (passing flag E (rd n NV s) (rd n DEGREE s e) e) y new) (mark-of t k i (a .0) (a .1))
+        ∙ ap (λ (y : ℕ). foldl (passing flag E (rd n NV s) (rd n DEGREE s e) e) y new) (mark-of t k i (a .2) (a .0) (a .1))
 
     -- each mark goes its own way
-    pub mark-all : (from k : ℕ) (new : List ℕ) → entries (at l) from k ≡ new → Room n s → Listed n l s E new
+    pub mark-all : (from k : ℕ) (new : List ℕ) → (0 < k → from + k ≤ length l) → entries (at l) from k ≡ new → Room n s → Listed n l s E new
         → rd n W (sizedAll n l flag from k s) e ≡ counted flag E (rd n NV s) (rd n DEGREE s e) e new (rd n W s e)
     unfolding counted
-    mark-all from k new m r h = rw (all-fold from k s new m) (mark-rows new s (kept-none n s r) h)
+    mark-all from k new b m r h = rw (all-fold from k s new b m) (mark-rows new s (kept-none n s r) h)

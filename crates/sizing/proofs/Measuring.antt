@@ -15,7 +15,7 @@ use Rattle.sizing.proofs.Marks.{kept-all, mark-all}
 
 module _ (n flag from k : ℕ) (l s : List ℤ) (E : ℕ → List ℕ) (new : List ℕ) (h : Ready n flag from k l s E new) where
   marks : (e : ℕ) → rd n W (sizedAll n l flag from k s) e ≡ counted flag E (rd n NV s) (rd n DEGREE s e) e new (rd n W s e)
-  marks e = mark-all n l flag s E e from k new (h .rows) (h .room) (h .lists)
+  marks e = mark-all n l flag s E e from k new (h .inside) (h .rows) (h .room) (h .lists)
 
   -- THE refinement of step 3
   pub measured-all : Measured n flag s (sizedAll n l flag from k s) E new

@@ -1,13 +1,19 @@
 -- The code's steps are the model's: one law for each way out of a function, its premises in the words of what was called.
 -- Assumes nothing.
-use Prim.Native.Nat.{_-_, _<_, _≤_, ℕ}
+use Prim.Native.Nat.{_+_, _-_, _<_, _≤_, ℕ}
 use mathlib.Core.List.{List}
-use mathlib.Core.Path.{_≡_}
+use mathlib.Core.Path.{_≡_, refl, ap, _∙_}
 use borrow.Author.Tests.{le-leb, le-ltb, lt-leb, lt-ltb}
 use lib.IntN.{ℤ}
+use lib.ListN.{length}
 use Rattle.cells.specs.Layout.{DEGREE, ELEN, NV, PE, W}
-use Rattle.cells.specs.View.{at, plus, rd, up}
-use Rattle.sizing.specs.Model.{sizedAt, sizedElement, sizedFirst, sizedOf, sizedPart, sizedRow}
+use Rattle.cells.specs.View.{Room, at, plus, rd, up}
+use Rattle.plain.specs.Turns.{Turned}
+use Rattle.plain.proofs.Turns.{begin, turn}
+use Rattle.cells.specs.Rows.{clipped}
+use Rattle.cells.proofs.Rows.{clipped-finish}
+use Rattle.sizing.specs.Model.{sizedAt, sizedElement, sizedFirst, sizedOf, sizedPart, sizedRow, sizedAll, weighedRow, weighedRows}
+use Rattle.sizing.proofs.Marks.{kept-turns}
 
 module _ (n weight flag e : ℕ) (s : List ℤ) where
   pub first-step : (d all left : ℕ) (r : List ℤ) → d ≡ rd n DEGREE s e → all ≡ plus d flag → left ≡ all - weight → r ≡ up n W s e left
@@ -36,3 +42,35 @@ pub row-step : (n : ℕ) (l : List ℤ) (flag q : ℕ) (s : List ℤ) (i weight 
     → r ≡ sizedPart n l weight flag p k s → r ≡ sizedRow n l flag q s
 unfolding sizedRow sizedOf
 row-step n l flag q s i weight p k r hi hw hp hk hr = rw (← hi, ← hw, ← hp, ← hk) hr
+
+pub row-weight : (n : ℕ) (l : List ℤ) (q : ℕ) (s : List ℤ) (i weight : ℕ) → i ≡ at l q → weight ≡ rd n NV s i → weight ≡ rd n NV s (at l q)
+row-weight n l q s i weight hi hw = rw (← hi) hw
+
+-- the loop over the rows: marks and sum after t turns
+pub record Sizing (n : ℕ) (l : List ℤ) (flag from : ℕ) (s₀ : List ℤ) (t : ℕ) (s : List ℤ) (sum : ℕ) : Type 0 where
+  pub marks : Turned (λ j. sizedRow n l flag (from + j)) s₀ t s
+  pub weights : Turned (λ j. weighedRow n l s₀ (from + j)) 0 t sum
+
+module _ (n : ℕ) (l : List ℤ) (flag from : ℕ) (s₀ : List ℤ) where
+  pub sizing-begins : Sizing n l flag from s₀ 0 s₀ 0
+  sizing-begins = record { marks = begin (λ j. sizedRow n l flag (from + j)) s₀; weights = begin (λ j. weighedRow n l s₀ (from + j)) 0 }
+
+  -- the weights are those before the first turn: no turn touches them
+  pub sizing-turns : (t : ℕ) (s : List ℤ) (sum weight : ℕ) (s′ : List ℤ) (sum′ : ℕ) → Sizing n l flag from s₀ t s sum → Room n s₀ → s′ ≡ sizedRow n l flag (from + t) s
+      → weight ≡ rd n NV s (at l (from + t)) → sum′ ≡ plus sum weight → Sizing n l flag from s₀ (t + 1) s′ sum′
+  unfolding weighedRow
+  sizing-turns t s sum weight s′ sum′ h r e w f =
+      let kept : rd n NV s (at l (from + t)) ≡ rd n NV s₀ (at l (from + t)) = rw (h .marks .same) (kept-turns n l flag from t s₀ r .fields NV (at l (from + t)) refl) in
+      record {
+        marks = turn (λ j. sizedRow n l flag (from + j)) s₀ t s (h .marks) s′ e;
+        weights = turn (λ j. weighedRow n l s₀ (from + j)) 0 t sum (h .weights) sum′ (f ∙ ap (plus sum) (w ∙ kept));
+      }
+
+  module _ (t : ℕ) (s : List ℤ) (sum : ℕ) (h : Sizing n l flag from s₀ t s sum) (k there : ℕ) (e : there ≡ clipped (length l) from k) (a : t ≤ there) (b : there ≤ t) where
+    pub sizing-marks : s ≡ sizedAll n l flag from k s₀
+    unfolding sizedAll
+    sizing-marks = clipped-finish (λ j. sizedRow n l flag (from + j)) s₀ t s (h .marks) (length l) from k there e a b
+
+    pub sizing-weights : sum ≡ weighedRows n l s₀ from k
+    unfolding weighedRows
+    sizing-weights = clipped-finish (λ j. weighedRow n l s₀ (from + j)) 0 t sum (h .weights) (length l) from k there e a b

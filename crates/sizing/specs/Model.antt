@@ -5,8 +5,10 @@ use mathlib.Core.Bool.{cond}
 use mathlib.Core.List.{List}
 use lib.Dec.{leb, ltb}
 use lib.IntN.{ℤ}
+use lib.ListN.{length}
 use Rattle.plain.specs.Turns.{times}
 use Rattle.cells.specs.Layout.{DEGREE, ELEN, NV, PE, W}
+use Rattle.cells.specs.Rows.{clipped}
 use Rattle.cells.specs.View.{at, plus, rd, up}
 
 -- the counter of e begins
@@ -24,7 +26,7 @@ sizedAt n l weight flag q s = sizedElement n weight flag (at l q) s
 
 -- the elements of a part of the list space
 unfoldable pub sizedPart : ℕ → List ℤ → ℕ → ℕ → ℕ → ℕ → List ℤ → List ℤ
-sizedPart n l weight flag p k s = times k (λ t. sizedAt n l weight flag (p + t)) s
+sizedPart n l weight flag p k s = times (clipped (length l) p k) (λ t. sizedAt n l weight flag (p + t)) s
 
 -- those of row i
 unfoldable pub sizedOf : ℕ → List ℤ → ℕ → ℕ → List ℤ → List ℤ
@@ -36,4 +38,12 @@ sizedRow n l flag q s = sizedOf n l flag (at l q) s
 
 -- those of the rows of a part of the list space
 unfoldable pub sizedAll : ℕ → List ℤ → ℕ → ℕ → ℕ → List ℤ → List ℤ
-sizedAll n l flag from k s = times k (λ t. sizedRow n l flag (from + t)) s
+sizedAll n l flag from k s = times (clipped (length l) from k) (λ t. sizedRow n l flag (from + t)) s
+
+-- ---- the weight of the rows, on the way
+
+unfoldable pub weighedRow : ℕ → List ℤ → List ℤ → ℕ → ℕ → ℕ
+weighedRow n l s q sum = plus sum (rd n NV s (at l q))
+
+unfoldable pub weighedRows : ℕ → List ℤ → List ℤ → ℕ → ℕ → ℕ
+weighedRows n l s from k = times (clipped (length l) from k) (λ t. weighedRow n l s (from + t)) 0

@@ -24,11 +24,12 @@ pub record Kept (n : ℕ) (s t : List ℤ) : Type 0 where
 
 -- the elements of the rows are in the list space, each once
 abbrev pub Listed : ℕ → List ℤ → List ℤ → (ℕ → List ℕ) → List ℕ → Type 0
-Listed n l s E new = (i : ℕ) → In i new → (entries (at l) (rd n PE s i) (rd n ELEN s i) ≡ E i) × Distinct (E i)
+Listed n l s E new = (i : ℕ) → In i new → (entries (at l) (rd n PE s i) (rd n ELEN s i) ≡ E i) × Distinct (E i) × (0 < rd n ELEN s i → rd n PE s i + rd n ELEN s i ≤ length l)
 
 pub record Ready (n flag from k : ℕ) (l s : List ℤ) (E : ℕ → List ℕ) (new : List ℕ) : Type 0 where
   pub room : Room n s
   pub rows : entries (at l) from k ≡ new
+  pub inside : 0 < k → from + k ≤ length l
   pub lists : Listed n l s E new
   -- no mark is a counter yet
   pub below : (e : ℕ) → rd n W s e < flag

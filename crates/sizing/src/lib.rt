@@ -3,29 +3,32 @@
 // Nothing here asks for a memory that makes sense: a contract is the function's own model, and the laws of `proofs/` say what it finds.
 ghost use mathlib.Core.Path.{_≡_};
 ghost use Prim.Native.Nat.{_<_, _^_};
-ghost use Rattle.cells.specs.View.{Room};
-ghost use Rattle.sizing.specs.Model.{sizedFirst, sizedElement, sizedAt, sizedPart, sizedRow, sizedAll};
+ghost use lib.ListN.{length};
+ghost use Rattle.cells.specs.Layout.{NV};
+ghost use Rattle.cells.specs.View.{Room, at, rd};
+ghost use Rattle.cells.specs.Rows.{Rows};
+ghost use Rattle.sizing.specs.Model.{sizedFirst, sizedElement, sizedAt, sizedPart, sizedRow, sizedAll, weighedRows};
 
 // The counter of `e` begins at its weight, and loses that of the first row.
 pub fn size_first(s: &mut [i64], n: usize, e: usize, weight: usize, flag: usize)
-    requires { ⌜ Room n (now s) × (flag < 2 ^ 63) ⌝ }
+    requires { ⌜ Room n (now s) × (e < n) × (flag < 2 ^ 63) ⌝ }
     ensures { λ _. ⌜ (now (s .exit) ≡ sizedFirst n weight flag e (now (s .entry))) × Room n (now (s .exit)) ⌝ }
 {
-    let d = cells::rd(s, n, cells::DEGREE, e);
+    let d = cells::get(s, n, cells::DEGREE, e);
     let all = cells::plus(d, flag);
     let left = cells::less(all, weight);
-    cells::up(s, n, cells::W, e, left);
+    cells::set(s, n, cells::W, e, left);
 }
 
 // A row of this weight has the element `e`.
 pub fn size_element(s: &mut [i64], n: usize, e: usize, weight: usize, flag: usize)
-    requires { ⌜ Room n (now s) × (flag < 2 ^ 63) ⌝ }
+    requires { ⌜ Room n (now s) × (e < n) × (flag < 2 ^ 63) ⌝ }
     ensures { λ _. ⌜ (now (s .exit) ≡ sizedElement n weight flag e (now (s .entry))) × Room n (now (s .exit)) ⌝ }
 {
-    let mark = cells::rd(s, n, cells::W, e);
+    let mark = cells::get(s, n, cells::W, e);
     if flag <= mark {
         let left = cells::less(mark, weight);
-        cells::up(s, n, cells::W, e, left);
+        cells::set(s, n, cells::W, e, left);
     } else if 0 < mark {
         size_first(s, n, e, weight, flag);
     }
@@ -33,10 +36,10 @@ pub fn size_element(s: &mut [i64], n: usize, e: usize, weight: usize, flag: usiz
 
 // The same of the element in cell `q` of the lists.
 pub fn size_at(lists: &[i64], s: &mut [i64], n: usize, q: usize, weight: usize, flag: usize)
-    requires { ⌜ Room n (now s) × (flag < 2 ^ 63) ⌝ }
+    requires { ⌜ Room n (now s) × Rows n (now lists) × (q < length (now lists)) × (flag < 2 ^ 63) ⌝ }
     ensures { λ _. ⌜ (now (s .exit) ≡ sizedAt n (now (lists .entry)) weight flag q (now (s .entry))) × Room n (now (s .exit)) ⌝ }
 {
-    let e = cells::peek(lists, q);
+    let e = cells::row(lists, n, q);
     size_element(s, n, e, weight, flag);
 }
 
@@ -50,32 +53,38 @@ pub fn size_elements(
     weight: usize,
     flag: usize,
 )
-    requires { ⌜ Room n (now s) × (flag < 2 ^ 63) × (p < 2 ^ 63) × (k < 2 ^ 63) ⌝ }
+    requires { ⌜ Room n (now s) × Rows n (now lists) × (flag < 2 ^ 63) ⌝ }
     ensures { λ _. ⌜ (now (s .exit) ≡ sizedPart n (now (lists .entry)) weight flag p k (now (s .entry))) × Room n (now (s .exit)) ⌝ }
 {
-    for t in 0..k {
+    let there = cells::clip(lists.len(), p, k);
+    for t in 0..there {
         size_at(lists, s, n, p + t, weight, flag);
     }
 }
 
-// The elements of the row in cell `q` of the lists.
-pub fn size_row(lists: &[i64], s: &mut [i64], n: usize, q: usize, flag: usize)
-    requires { ⌜ Room n (now s) × (flag < 2 ^ 63) ⌝ }
-    ensures { λ _. ⌜ (now (s .exit) ≡ sizedRow n (now (lists .entry)) flag q (now (s .entry))) × Room n (now (s .exit)) ⌝ }
+// The elements of the row in cell `q` of the lists. The result is the row's weight.
+pub fn size_row(lists: &[i64], s: &mut [i64], n: usize, q: usize, flag: usize) -> usize
+    requires { ⌜ Room n (now s) × Rows n (now lists) × (q < length (now lists)) × (flag < 2 ^ 63) ⌝ }
+    ensures { λ r. ⌜ (r ≡ rd n NV (now (s .entry)) (at (now (lists .entry)) q)) × (now (s .exit) ≡ sizedRow n (now (lists .entry)) flag q (now (s .entry))) × Room n (now (s .exit)) × (r < 2 ^ 63) ⌝ }
 {
-    let i = cells::peek(lists, q);
-    let weight = cells::tab(s, n, cells::NV, i);
-    let p = cells::rd(s, n, cells::PE, i);
-    let k = cells::rd(s, n, cells::ELEN, i);
+    let i = cells::row(lists, n, q);
+    let weight = cells::look(s, n, cells::NV, i);
+    let p = cells::get(s, n, cells::PE, i);
+    let k = cells::get(s, n, cells::ELEN, i);
     size_elements(lists, s, n, p, k, weight, flag);
+    weight
 }
 
-// Those of each of the `k` rows from `from` on: the rows of the new element.
-pub fn size_all(lists: &[i64], s: &mut [i64], n: usize, from: usize, k: usize, flag: usize)
-    requires { ⌜ Room n (now s) × (flag < 2 ^ 63) × (from < 2 ^ 63) × (k < 2 ^ 63) ⌝ }
-    ensures { λ _. ⌜ (now (s .exit) ≡ sizedAll n (now (lists .entry)) flag from k (now (s .entry))) × Room n (now (s .exit)) ⌝ }
+// Those of each of the `k` rows from `from` on: the rows of the new element. The result is their weight.
+pub fn size_all(lists: &[i64], s: &mut [i64], n: usize, from: usize, k: usize, flag: usize) -> usize
+    requires { ⌜ Room n (now s) × Rows n (now lists) × (flag < 2 ^ 63) ⌝ }
+    ensures { λ r. ⌜ (r ≡ weighedRows n (now (lists .entry)) (now (s .entry)) from k) × (now (s .exit) ≡ sizedAll n (now (lists .entry)) flag from k (now (s .entry))) × Room n (now (s .exit)) × (r < 2 ^ 63) ⌝ }
 {
-    for t in 0..k {
-        size_row(lists, s, n, from + t, flag);
+    let mut sum = 0;
+    let there = cells::clip(lists.len(), from, k);
+    for t in 0..there {
+        let weight = size_row(lists, s, n, from + t, flag);
+        sum = cells::plus(sum, weight);
     }
+    sum
 }

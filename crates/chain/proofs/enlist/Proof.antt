@@ -4,38 +4,30 @@ use Rattle.chain.proofs.enlist.Statement.{statement}
 use Rattle.chain.proofs.enlist.Tie as tie
 use Rattle.chain.proofs.enlist.Reads as reads
 use Rattle.chain.proofs.enlist.Lts as lts
-use Rattle.cells.proofs.rd.Reads as rd-reads
+use Rattle.cells.proofs.get.Reads as get-reads
 use Rattle.chain.proofs.put_front.Reads as put-front-reads
 
--- src/lib.rt:107:9
-rd-requires : tie.Need-rd-requires
-rd-requires c κs = search needs
+get-requires : tie.Need-get-requires
+get-requires c κs = search needs
 
--- src/lib.rt:110:13
 put-front-requires : tie.Need-put-front-requires
 put-front-requires c κs = search needs
 
--- src/lib.rt:103:1
 same-length : tie.Need-same-length
 same-length c = search needs
 
--- src/lib.rt:103:1
 returns : tie.Need-returns
 returns c = search (needs, enlist-yes)
 
--- src/lib.rt:103:1
 same-length-2 : tie.Need-same-length-2
 same-length-2 c = search needs
 
--- src/lib.rt:103:1
 returns-2 : tie.Need-returns-2
 returns-2 c = search (needs, enlist-long)
 
--- src/lib.rt:103:1
 same-length-3 : tie.Need-same-length-3
 same-length-3 c = search needs
 
--- src/lib.rt:103:1
 returns-3 : tie.Need-returns-3
 returns-3 c = search (needs, enlist-none)
 
@@ -43,7 +35,7 @@ pub enlist-spec : {M : Type 1} → statement M
 enlist-spec =
     tie.close
     (tie.spec
-    rd-requires
+    get-requires
     put-front-requires
     same-length
     returns

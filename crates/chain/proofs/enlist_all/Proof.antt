@@ -20,35 +20,27 @@ Inv-loop s₀ n limit i₀ s i = Turned (enlistedOne n limit) s₀ i s × (lengt
 abbrev μ-loop : tie.MeasureT-loop
 μ-loop s₀ n limit i₀ s i = n - i
 
--- src/lib.rt:120:5
 empty-lists-requires : tie.Need-empty-lists-requires Inv-loop μ-loop
 empty-lists-requires c κs = search needs
 
--- src/lib.rt:121:5
 loop-holds : tie.Need-loop-holds Inv-loop μ-loop
 loop-holds c = search (needs, begin)
 
--- src/lib.rt:122:9
 enlist-requires : tie.Need-enlist-requires Inv-loop μ-loop
 enlist-requires c κs = search needs
 
--- src/lib.rt:121:9
 add-i : tie.Need-add-i Inv-loop μ-loop
 add-i c = search needs
 
--- src/lib.rt:121:5
 loop-less : tie.Need-loop-less Inv-loop μ-loop
 loop-less c = search needs
 
--- src/lib.rt:121:5
 loop-again : tie.Need-loop-again Inv-loop μ-loop
 loop-again c = search (needs, turn)
 
--- src/lib.rt:116:1
 same-length : tie.Need-same-length Inv-loop μ-loop
 same-length c = search needs
 
--- src/lib.rt:116:1
 returns : tie.Need-returns Inv-loop μ-loop
 returns c = search (needs, rows-finish)
 

@@ -5,7 +5,7 @@ use Rattle.chain.proofs.find_pivot.Statement.{statement}
 use Rattle.chain.proofs.find_pivot.Tie as tie
 use Rattle.chain.proofs.find_pivot.Reads as reads
 use Rattle.chain.proofs.find_pivot.Lts as lts
-use Rattle.cells.proofs.tab.Reads as tab-reads
+use Rattle.cells.proofs.look.Reads as look-reads
 
 abbrev Inv-loop : tie.InvT-loop
 Inv-loop s n least d₀ d = Passed n s least d
@@ -13,35 +13,28 @@ Inv-loop s n least d₀ d = Passed n s least d
 abbrev μ-loop : tie.MeasureT-loop
 μ-loop s n least d₀ d = n - d
 
--- src/lib.rt:66:5
 loop-holds : tie.Need-loop-holds Inv-loop μ-loop
 loop-holds c = search (needs, start)
 
--- src/lib.rt:70:13
-tab-requires : tie.Need-tab-requires Inv-loop μ-loop
-tab-requires c κs = search needs
+look-requires : tie.Need-look-requires Inv-loop μ-loop
+look-requires c κs = search needs
 
--- src/lib.rt:77:9
 add-d : tie.Need-add-d Inv-loop μ-loop
 add-d c = search needs
 
--- src/lib.rt:66:5
 loop-less : tie.Need-loop-less Inv-loop μ-loop
 loop-less c = search needs
 
--- src/lib.rt:66:5
 loop-again : tie.Need-loop-again Inv-loop μ-loop
 loop-again c = search (needs, more)
 
--- src/lib.rt:61:1
 returns : tie.Need-returns Inv-loop μ-loop
 returns c = search (needs, nothing)
 
--- src/lib.rt:61:1
 returns-2 : tie.Need-returns-2 Inv-loop μ-loop
 returns-2 c = search (needs, found)
 
 pub find-pivot-spec : {M : Type 1} → statement M
 find-pivot-spec =
     tie.close
-    (tie.spec Inv-loop μ-loop loop-holds tab-requires add-d loop-less loop-again returns returns-2)
+    (tie.spec Inv-loop μ-loop loop-holds look-requires add-d loop-less loop-again returns returns-2)

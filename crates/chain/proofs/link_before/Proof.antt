@@ -5,26 +5,22 @@ use Rattle.chain.proofs.link_before.Tie as tie
 use Rattle.chain.proofs.link_before.Reads as reads
 use Rattle.chain.proofs.link_before.Lts as lts
 use Rattle.cells.proofs.up.Reads as up-reads
+use Rattle.cells.proofs.set.Reads as set-reads
 
--- src/lib.rt:44:5
 up-requires : tie.Need-up-requires
 up-requires c κs = search needs
 
--- src/lib.rt:45:5
-up-requires-2 : tie.Need-up-requires-2
-up-requires-2 c κs = search needs
+set-requires : tie.Need-set-requires
+set-requires c κs = search needs
 
--- src/lib.rt:46:5
-up-requires-3 : tie.Need-up-requires-3
-up-requires-3 c κs = search needs
+set-requires-2 : tie.Need-set-requires-2
+set-requires-2 c κs = search needs
 
--- src/lib.rt:40:1
 same-length : tie.Need-same-length
 same-length c = search needs
 
--- src/lib.rt:40:1
 returns : tie.Need-returns
 returns c = search (needs, link-step)
 
 pub link-before-spec : {M : Type 1} → statement M
-link-before-spec = tie.close (tie.spec up-requires up-requires-2 up-requires-3 same-length returns)
+link-before-spec = tie.close (tie.spec up-requires set-requires set-requires-2 same-length returns)

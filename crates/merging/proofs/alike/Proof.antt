@@ -4,14 +4,14 @@ use Rattle.merging.proofs.alike.Statement.{statement}
 use Rattle.merging.proofs.alike.Tie as tie
 use Rattle.merging.proofs.alike.Reads as reads
 use Rattle.merging.proofs.alike.Lts as lts
-use Rattle.cells.proofs.rd.Reads as rd-reads
+use Rattle.cells.proofs.get.Reads as get-reads
 use Rattle.merging.proofs.same_elements.Reads as same-elements-reads
 
-rd-requires : tie.Need-rd-requires
-rd-requires c κs = search needs
+get-requires : tie.Need-get-requires
+get-requires c κs = search needs
 
-rd-requires-2 : tie.Need-rd-requires-2
-rd-requires-2 c κs = search needs
+get-requires-2 : tie.Need-get-requires-2
+get-requires-2 c κs = search needs
 
 same-elements-requires : tie.Need-same-elements-requires
 same-elements-requires c κs = search needs
@@ -23,4 +23,4 @@ returns-2 : tie.Need-returns-2
 returns-2 c = search (needs, length-differs)
 
 pub alike-spec : {M : Type 1} → statement M
-alike-spec = tie.close (tie.spec rd-requires rd-requires-2 same-elements-requires returns returns-2)
+alike-spec = tie.close (tie.spec get-requires get-requires-2 same-elements-requires returns returns-2)

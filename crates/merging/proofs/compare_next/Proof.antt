@@ -4,12 +4,12 @@ use Rattle.merging.proofs.compare_next.Statement.{statement}
 use Rattle.merging.proofs.compare_next.Tie as tie
 use Rattle.merging.proofs.compare_next.Reads as reads
 use Rattle.merging.proofs.compare_next.Lts as lts
-use Rattle.cells.proofs.tab.Reads as tab-reads
+use Rattle.cells.proofs.look.Reads as look-reads
 use Rattle.merging.proofs.alike.Reads as alike-reads
 use Rattle.merging.proofs.take_next.Reads as take-next-reads
 
-tab-requires : tie.Need-tab-requires
-tab-requires c κs = search needs
+look-requires : tie.Need-look-requires
+look-requires c κs = search needs
 
 alike-requires : tie.Need-alike-requires
 alike-requires c κs = search needs
@@ -30,4 +30,4 @@ returns-2 : tie.Need-returns-2
 returns-2 c = search (needs, compare-no)
 
 pub compare-next-spec : {M : Type 1} → statement M
-compare-next-spec = tie.close (tie.spec tab-requires alike-requires take-next-requires same-length returns same-length-2 returns-2)
+compare-next-spec = tie.close (tie.spec look-requires alike-requires take-next-requires same-length returns same-length-2 returns-2)

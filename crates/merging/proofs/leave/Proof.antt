@@ -4,11 +4,11 @@ use Rattle.merging.proofs.leave.Statement.{statement}
 use Rattle.merging.proofs.leave.Tie as tie
 use Rattle.merging.proofs.leave.Reads as reads
 use Rattle.merging.proofs.leave.Lts as lts
-use Rattle.cells.proofs.up.Reads as up-reads
+use Rattle.cells.proofs.set.Reads as set-reads
 use Rattle.cells.proofs.put_parent.Reads as put-parent-reads
 
-up-requires : tie.Need-up-requires
-up-requires c κs = search needs
+set-requires : tie.Need-set-requires
+set-requires c κs = search needs
 
 put-parent-requires : tie.Need-put-parent-requires
 put-parent-requires c κs = search needs
@@ -20,4 +20,4 @@ returns : tie.Need-returns
 returns c = search (needs, leave-step)
 
 pub leave-spec : {M : Type 1} → statement M
-leave-spec = tie.close (tie.spec up-requires put-parent-requires same-length returns)
+leave-spec = tie.close (tie.spec set-requires put-parent-requires same-length returns)

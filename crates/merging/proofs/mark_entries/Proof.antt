@@ -4,15 +4,15 @@ use Rattle.merging.proofs.mark_entries.Statement.{statement}
 use Rattle.merging.proofs.mark_entries.Tie as tie
 use Rattle.merging.proofs.mark_entries.Reads as reads
 use Rattle.merging.proofs.mark_entries.Lts as lts
-use Rattle.cells.proofs.rd.Reads as rd-reads
+use Rattle.cells.proofs.get.Reads as get-reads
 use Rattle.cells.proofs.less.Reads as less-reads
 use Rattle.merging.proofs.mark_part.Reads as mark-part-reads
 
-rd-requires : tie.Need-rd-requires
-rd-requires c κs = search needs
+get-requires : tie.Need-get-requires
+get-requires c κs = search needs
 
-rd-requires-2 : tie.Need-rd-requires-2
-rd-requires-2 c κs = search needs
+get-requires-2 : tie.Need-get-requires-2
+get-requires-2 c κs = search needs
 
 less-requires : tie.Need-less-requires
 less-requires c κs = search needs
@@ -30,4 +30,4 @@ returns : tie.Need-returns
 returns c = search (needs, mark-list)
 
 pub mark-entries-spec : {M : Type 1} → statement M
-mark-entries-spec = tie.close (tie.spec rd-requires rd-requires-2 less-requires add-mark-part mark-part-requires same-length returns)
+mark-entries-spec = tie.close (tie.spec get-requires get-requires-2 less-requires add-mark-part mark-part-requires same-length returns)

@@ -1,4 +1,4 @@
-use Rattle.plain.proofs.Turns.{begin, turn, finish}
+use Rattle.plain.proofs.Turns.{begin, turn}
 use Rattle.plain.specs.Turns.{Turned}
 use lib.ListN.{length}
 use mathlib.Core.Path.{_≡_}
@@ -6,18 +6,23 @@ use Prim.Native.Nat.{_+_, _-_, _≤_}
 use Rattle.cells.specs.View.{Room, at, up}
 use Rattle.cells.specs.Layout.{W}
 use Rattle.merging.specs.Model.{marking}
+use Rattle.merging.proofs.Steps.{part-done}
 use borrow.Author.Needs.{needs}
 use Rattle.merging.proofs.mark_part.Statement.{statement}
 use Rattle.merging.proofs.mark_part.Tie as tie
 use Rattle.merging.proofs.mark_part.Reads as reads
 use Rattle.merging.proofs.mark_part.Lts as lts
+use Rattle.cells.proofs.clip.Reads as clip-reads
 use Rattle.merging.proofs.mark_one.Reads as mark-one-reads
 
 abbrev Inv-loop : tie.InvT-loop
-Inv-loop lists s₀ n p k flag t₀ s t = Turned (λ j m. up n W m (at lists (p + j)) flag) s₀ t s × (length s ≡ length s₀) × Room n s × (t ≤ k)
+Inv-loop lists s₀ n p k flag m t₀ s t = Turned (λ j r. up n W r (at lists (p + j)) flag) s₀ t s × (length s ≡ length s₀) × Room n s × (t ≤ m)
 
 abbrev μ-loop : tie.MeasureT-loop
-μ-loop lists s₀ n p k flag t₀ s t = k - t
+μ-loop lists s₀ n p k flag m t₀ s t = m - t
+
+clip-requires : tie.Need-clip-requires Inv-loop μ-loop
+clip-requires c κs = search needs
 
 loop-holds : tie.Need-loop-holds Inv-loop μ-loop
 loop-holds c = search (needs, begin)
@@ -42,7 +47,7 @@ same-length c = search needs
 
 returns : tie.Need-returns Inv-loop μ-loop
 unfolding marking
-returns c = search (needs, finish)
+returns c = search (needs, part-done)
 
 pub mark-part-spec : {M : Type 1} → statement M
-mark-part-spec = tie.close (tie.spec Inv-loop μ-loop loop-holds add-mark-one mark-one-requires add-t loop-less loop-again same-length returns)
+mark-part-spec = tie.close (tie.spec Inv-loop μ-loop clip-requires loop-holds add-mark-one mark-one-requires add-t loop-less loop-again same-length returns)

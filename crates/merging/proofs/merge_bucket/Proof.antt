@@ -9,7 +9,7 @@ use Rattle.merging.proofs.merge_bucket.Statement.{statement}
 use Rattle.merging.proofs.merge_bucket.Tie as tie
 use Rattle.merging.proofs.merge_bucket.Reads as reads
 use Rattle.merging.proofs.merge_bucket.Lts as lts
-use Rattle.cells.proofs.tab.Reads as tab-reads
+use Rattle.cells.proofs.look.Reads as look-reads
 use Rattle.merging.proofs.merge_at.Reads as merge-at-reads
 
 abbrev Inv-loop : tie.InvT-loop
@@ -27,8 +27,8 @@ sub-todo c = search needs
 merge-at-requires : tie.Need-merge-at-requires Inv-loop μ-loop
 merge-at-requires c κs = search needs
 
-tab-requires : tie.Need-tab-requires Inv-loop μ-loop
-tab-requires c κs = search needs
+look-requires : tie.Need-look-requires Inv-loop μ-loop
+look-requires c κs = search needs
 
 loop-less : tie.Need-loop-less Inv-loop μ-loop
 loop-less c = search needs
@@ -49,4 +49,4 @@ returns-2 : tie.Need-returns-2 Inv-loop μ-loop
 returns-2 c = search (needs, run-out)
 
 pub merge-bucket-spec : {M : Type 1} → statement M
-merge-bucket-spec = tie.close (tie.spec Inv-loop μ-loop loop-holds sub-todo merge-at-requires tab-requires loop-less loop-again same-length returns same-length-2 returns-2)
+merge-bucket-spec = tie.close (tie.spec Inv-loop μ-loop loop-holds sub-todo merge-at-requires look-requires loop-less loop-again same-length returns same-length-2 returns-2)

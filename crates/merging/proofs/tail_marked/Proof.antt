@@ -4,12 +4,12 @@ use Rattle.merging.proofs.tail_marked.Statement.{statement}
 use Rattle.merging.proofs.tail_marked.Tie as tie
 use Rattle.merging.proofs.tail_marked.Reads as reads
 use Rattle.merging.proofs.tail_marked.Lts as lts
-use Rattle.cells.proofs.rd.Reads as rd-reads
+use Rattle.cells.proofs.get.Reads as get-reads
 use Rattle.cells.proofs.less.Reads as less-reads
 use Rattle.merging.proofs.all_marked.Reads as all-marked-reads
 
-rd-requires : tie.Need-rd-requires
-rd-requires c κs = search needs
+get-requires : tie.Need-get-requires
+get-requires c κs = search needs
 
 less-requires : tie.Need-less-requires
 less-requires c κs = search needs
@@ -24,4 +24,4 @@ returns : tie.Need-returns
 returns c = search (needs, tail-step)
 
 pub tail-marked-spec : {M : Type 1} → statement M
-tail-marked-spec = tie.close (tie.spec rd-requires less-requires add-all-marked all-marked-requires returns)
+tail-marked-spec = tie.close (tie.spec get-requires less-requires add-all-marked all-marked-requires returns)

@@ -1,8 +1,6 @@
-use Rattle.sizing.specs.Model.{sizedRow, sizedAll}
+use Rattle.sizing.proofs.Steps.{Sizing, sizing-begins, sizing-turns, sizing-marks, sizing-weights}
 use Rattle.cells.specs.View.{Room}
-use Prim.Native.Nat.{_+_, _≤_, _-_}
-use Rattle.plain.proofs.Turns.{begin, turn, finish}
-use Rattle.plain.specs.Turns.{Turned}
+use Prim.Native.Nat.{_<_, _≤_, _-_, _^_}
 use lib.ListN.{length}
 use mathlib.Core.Path.{_≡_}
 use borrow.Author.Needs.{needs}
@@ -10,22 +8,30 @@ use Rattle.sizing.proofs.size_all.Statement.{statement}
 use Rattle.sizing.proofs.size_all.Tie as tie
 use Rattle.sizing.proofs.size_all.Reads as reads
 use Rattle.sizing.proofs.size_all.Lts as lts
+use Rattle.cells.proofs.clip.Reads as clip-reads
+use Rattle.cells.proofs.plus.Reads as plus-reads
 use Rattle.sizing.proofs.size_row.Reads as size-row-reads
 
 abbrev Inv-loop : tie.InvT-loop
-Inv-loop lists s₀ n from k flag t₀ s t = Turned (λ j. sizedRow n lists flag (from + j)) s₀ t s × (length s ≡ length s₀) × Room n s × (t ≤ k)
+Inv-loop lists s₀ n from k flag sum₀ there t₀ s sum t = Sizing n lists flag from s₀ t s sum × (sum < 2 ^ 63) × (length s ≡ length s₀) × Room n s × (t ≤ there)
 
 abbrev μ-loop : tie.MeasureT-loop
-μ-loop lists s₀ n from k flag t₀ s t = k - t
+μ-loop lists s₀ n from k flag sum₀ there t₀ s sum t = there - t
+
+clip-requires : tie.Need-clip-requires Inv-loop μ-loop
+clip-requires c κs = search needs
 
 loop-holds : tie.Need-loop-holds Inv-loop μ-loop
-loop-holds c = search (needs, begin)
+loop-holds c = search (needs, sizing-begins)
 
 add-size-row : tie.Need-add-size-row Inv-loop μ-loop
 add-size-row c = search needs
 
 size-row-requires : tie.Need-size-row-requires Inv-loop μ-loop
 size-row-requires c κs = search needs
+
+plus-requires : tie.Need-plus-requires Inv-loop μ-loop
+plus-requires c κs = search needs
 
 add-t : tie.Need-add-t Inv-loop μ-loop
 add-t c = search needs
@@ -34,14 +40,27 @@ loop-less : tie.Need-loop-less Inv-loop μ-loop
 loop-less c = search needs
 
 loop-again : tie.Need-loop-again Inv-loop μ-loop
-loop-again c = search (needs, turn)
+loop-again c = search (needs, sizing-turns)
 
 same-length : tie.Need-same-length Inv-loop μ-loop
 same-length c = search needs
 
 returns : tie.Need-returns Inv-loop μ-loop
-unfolding sizedAll
-returns c = search (needs, finish)
+returns c = search (needs, sizing-marks, sizing-weights)
 
 pub size-all-spec : {M : Type 1} → statement M
-size-all-spec = tie.close (tie.spec Inv-loop μ-loop loop-holds add-size-row size-row-requires add-t loop-less loop-again same-length returns)
+size-all-spec =
+    tie.close
+    (tie.spec
+    Inv-loop
+    μ-loop
+    clip-requires
+    loop-holds
+    add-size-row
+    size-row-requires
+    plus-requires
+    add-t
+    loop-less
+    loop-again
+    same-length
+    returns)

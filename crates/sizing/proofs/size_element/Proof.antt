@@ -4,19 +4,19 @@ use Rattle.sizing.proofs.size_element.Statement.{statement}
 use Rattle.sizing.proofs.size_element.Tie as tie
 use Rattle.sizing.proofs.size_element.Reads as reads
 use Rattle.sizing.proofs.size_element.Lts as lts
-use Rattle.cells.proofs.rd.Reads as rd-reads
+use Rattle.cells.proofs.get.Reads as get-reads
 use Rattle.cells.proofs.less.Reads as less-reads
-use Rattle.cells.proofs.up.Reads as up-reads
+use Rattle.cells.proofs.set.Reads as set-reads
 use Rattle.sizing.proofs.size_first.Reads as size-first-reads
 
-rd-requires : tie.Need-rd-requires
-rd-requires c κs = search needs
+get-requires : tie.Need-get-requires
+get-requires c κs = search needs
 
 less-requires : tie.Need-less-requires
 less-requires c κs = search needs
 
-up-requires : tie.Need-up-requires
-up-requires c κs = search needs
+set-requires : tie.Need-set-requires
+set-requires c κs = search needs
 
 size-first-requires : tie.Need-size-first-requires
 size-first-requires c κs = search needs
@@ -40,4 +40,4 @@ returns-3 : tie.Need-returns-3
 returns-3 c = search (needs, element-gone)
 
 pub size-element-spec : {M : Type 1} → statement M
-size-element-spec = tie.close (tie.spec rd-requires less-requires up-requires size-first-requires same-length returns same-length-2 returns-2 same-length-3 returns-3)
+size-element-spec = tie.close (tie.spec get-requires less-requires set-requires size-first-requires same-length returns same-length-2 returns-2 same-length-3 returns-3)

@@ -1,25 +1,25 @@
-use Rattle.sizing.proofs.Steps.{row-step}
+use Rattle.sizing.proofs.Steps.{row-step, row-weight}
 use borrow.Author.Needs.{needs}
 use Rattle.sizing.proofs.size_row.Statement.{statement}
 use Rattle.sizing.proofs.size_row.Tie as tie
 use Rattle.sizing.proofs.size_row.Reads as reads
 use Rattle.sizing.proofs.size_row.Lts as lts
-use Rattle.cells.proofs.peek.Reads as peek-reads
-use Rattle.cells.proofs.tab.Reads as tab-reads
-use Rattle.cells.proofs.rd.Reads as rd-reads
+use Rattle.cells.proofs.row.Reads as row-reads
+use Rattle.cells.proofs.look.Reads as look-reads
+use Rattle.cells.proofs.get.Reads as get-reads
 use Rattle.sizing.proofs.size_elements.Reads as size-elements-reads
 
-peek-requires : tie.Need-peek-requires
-peek-requires c κs = search needs
+row-requires : tie.Need-row-requires
+row-requires c κs = search needs
 
-tab-requires : tie.Need-tab-requires
-tab-requires c κs = search needs
+look-requires : tie.Need-look-requires
+look-requires c κs = search needs
 
-rd-requires : tie.Need-rd-requires
-rd-requires c κs = search needs
+get-requires : tie.Need-get-requires
+get-requires c κs = search needs
 
-rd-requires-2 : tie.Need-rd-requires-2
-rd-requires-2 c κs = search needs
+get-requires-2 : tie.Need-get-requires-2
+get-requires-2 c κs = search needs
 
 size-elements-requires : tie.Need-size-elements-requires
 size-elements-requires c κs = search needs
@@ -28,7 +28,7 @@ same-length : tie.Need-same-length
 same-length c = search needs
 
 returns : tie.Need-returns
-returns c = search (needs, row-step)
+returns c = search (needs, row-step, row-weight)
 
 pub size-row-spec : {M : Type 1} → statement M
-size-row-spec = tie.close (tie.spec peek-requires tab-requires rd-requires rd-requires-2 size-elements-requires same-length returns)
+size-row-spec = tie.close (tie.spec row-requires look-requires get-requires get-requires-2 size-elements-requires same-length returns)
