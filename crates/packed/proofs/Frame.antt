@@ -4,7 +4,7 @@ use Prim.Native.Nat.{_+_, _-_, _<_, _≤_, ℕ}
 use native.Mathlib.Omega.{arith}
 use mathlib.Core.Bool.{false}
 use mathlib.Core.List.{List}
-use mathlib.Core.Logic.{_≢_, _⊎_, inl, inr, ⊎-elim}
+use mathlib.Core.Logic.{_≢_, _⊎_, inl, inr}
 use mathlib.Core.Path.{_∙_, _≡_, ap, subst, subst⁻¹, sym}
 use lib.Dec.{eqb}
 use lib.IntN.{ℤ}
@@ -12,20 +12,10 @@ use lib.ListN.{getD, length}
 use Rattle.plain.proofs.Entries.{entries-at, entries-length, entries-same, upd-other, upd-same}
 use Rattle.plain.specs.Turns.{entries, upd}
 use Rattle.cells.proofs.Laws.{rd-up-field}
-use Rattle.cells.proofs.Rows.{clipped-all}
-use Rattle.cells.proofs.Slices.{same?, split}
+use Rattle.cells.proofs.Slices.{same?}
 use Rattle.cells.specs.Layout.{LEN, PE}
-use Rattle.cells.specs.Rows.{clipped}
 use Rattle.cells.specs.View.{at, up}
 use Rattle.packed.specs.Places.{Mem, Owns, Places, places}
-
-clipped-none : (size p k : ℕ) → k ≤ 0 → clipped size p k ≡ k
-unfolding clipped
-clipped-none size p k h = omega arith
-
--- a part that is there, or has nothing
-pub clipped-some : (size p k : ℕ) → (0 < k → p + k ≤ size) → clipped size p k ≡ k
-clipped-some size p k h = ⊎-elim (λ z. clipped-all size p k (h z)) (λ z. clipped-none size p k z) (split 0 k)
 
 -- object i has the same place and length
 pub record Stays (f g : Places) (i : ℕ) : Type 0 where

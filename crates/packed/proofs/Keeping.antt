@@ -14,12 +14,13 @@ use Rattle.plain.proofs.Entries.{entries-none, entries-same, entries-snoc}
 use Rattle.plain.proofs.Turns.{times-keeps}
 use Rattle.plain.specs.Lists.{consIf, keep}
 use Rattle.plain.specs.Turns.{entries, upd}
+use Rattle.cells.proofs.Rows.{clipped-part}
 use Rattle.cells.proofs.Slices.{at-wr-other, at-wr-same, length-wr, plus-sum, split}
 use Rattle.cells.specs.Layout.{LEN, PE}
 use Rattle.cells.specs.View.{at, plus, rd, up, wr}
 use Rattle.packed.specs.Gather.{Cut, cut, keptOne, keptPart}
 use Rattle.packed.specs.Places.{Space, places}
-use Rattle.packed.proofs.Frame.{clipped-some, inside-space}
+use Rattle.packed.proofs.Frame.{inside-space}
 use Rattle.packed.proofs.Gathers.{keep-no, keep-yes}
 use Rattle.packed.proofs.Spaces.{space-rewritten}
 
@@ -105,7 +106,7 @@ module _ (n f : ℕ) (s l : List ℤ) (p k : ℕ) (small : k < 2 ^ 63) (fits : 0
   pub kept-part : Kept w l p k (keptPart n f s p k l)
   unfolding keptPart
   kept-part =
-      rw (clipped-some (length l) p k fits)
+      rw (clipped-part (length l) p k fits)
       (times-keeps (Kept w l p) step k (λ t m b h. ⊎-elim (λ z. passes t m b h z) (λ z. fails t m b h z) (split 0 (rd n f s (at (m .lists) (p + t))))) k (cut l 0) (omega arith) begun)
 
 -- the list of an object

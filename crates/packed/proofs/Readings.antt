@@ -11,13 +11,14 @@ use Rattle.plain.proofs.Entries.{entries-drop, entries-none, entries-take}
 use Rattle.plain.proofs.Turns.{times-fold}
 use Rattle.plain.specs.Turns.{entries}
 use Rattle.definition.specs.Room.{Read, readList}
+use Rattle.cells.proofs.Rows.{clipped-part}
 use Rattle.cells.proofs.Slices.{plus-sum}
 use Rattle.cells.specs.Layout.{ELEN, LEN, PE}
 use Rattle.cells.specs.View.{Room, at, plus, rd}
 use Rattle.packed.specs.Places.{Mem, places}
 use Rattle.packed.specs.Reading.{afterParts, pickOne, picked, readAll, readParts}
 use Rattle.packed.specs.Tray.{Taking, emptyTray, ownPart, passedBy, taking, took, tookAll, tookElement, tookElements, tookOwn, tookPart}
-use Rattle.packed.proofs.Frame.{clipped-some, ends, inside-space, len-of}
+use Rattle.packed.proofs.Frame.{ends, inside-space, len-of}
 use Rattle.packed.proofs.Picked.{after-is, foldl-append}
 use Rattle.packed.proofs.Taking.{Holds, holds-none, holds-passed, holds-read, wants}
 use Rattle.packed.specs.declared.Tray.{Tray}
@@ -47,7 +48,7 @@ module _ (n : ℕ) (small : n < 2 ^ 63) (quota : ℕ) (s : List ℤ) where
   pub holds-part : (l : List ℤ) (p k : ℕ) (y : List ℕ) → entries (at l) p k ≡ y → (0 < k → p + k ≤ length l) → (q : List Read) (r : ℕ) (m : Taking) → r + length y < 2 ^ 63 → Has q r m
       → Has (foldl pick q (readList r y)) (r + length y) (tookPart n quota l p k m)
   unfolding tookPart
-  holds-part l p k y e fits q r m b h = rw (clipped-some (length l) p k fits, times-fold (took n quota) (at l) p k m, e) (holds-list y q r m b h)
+  holds-part l p k y e fits q r m b h = rw (clipped-part (length l) p k fits, times-fold (took n quota) (at l) p k m, e) (holds-list y q r m b h)
 
   module _ (l : List ℤ) (lim : ℕ) (X : ℕ → List ℕ) (g : Mem l (places n s) lim X) where
     -- the list of an object
@@ -75,7 +76,7 @@ module _ (n : ℕ) (small : n < 2 ^ 63) (quota : ℕ) (s : List ℤ) where
 
     elements-fold : (p k : ℕ) (m : Taking) → (0 < k → p + k ≤ length l) → tookElements n quota l p k m ≡ foldl (λ a e. element e a) m (entries (at l) p k)
     unfolding tookElements tookElement element
-    elements-fold p k m fits = rw (clipped-some (length l) p k fits) (times-fold element (at l) p k m)
+    elements-fold p k m fits = rw (clipped-part (length l) p k fits) (times-fold element (at l) p k m)
 
     module _ (me : ℕ) (es vs : List ℕ) (parts : X me ≡ es ++ vs) (elen : rd n ELEN s me ≡ length es) where
       len : rd n LEN s me ≡ length es + length vs

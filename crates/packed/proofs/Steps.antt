@@ -5,19 +5,10 @@ use mathlib.Core.List.{List}
 use mathlib.Core.Path.{_≡_, ap}
 use borrow.Author.Tests.{le-ltb, lt-ltb}
 use lib.IntN.{ℤ}
-use Rattle.plain.proofs.Turns.{finish}
-use Rattle.plain.specs.Turns.{Turned, times}
 use Rattle.cells.specs.Layout.{LEN, ORD, PE, TMP}
-use Rattle.cells.specs.Rows.{clipped}
 use Rattle.cells.specs.View.{plus, rd, up, wr}
 use Rattle.packed.specs.Model.{Heap, copied, entered, heap, laidOne, movedDown, movedLow, movedNew, movedNext, movedOne, packedAll, packedLow}
 use Rattle.packed.specs.Places.{due, places}
-
--- ---- a loop over a part of the list space, as far as it is there
-
-pub finish-clipped : {A : Type 0} (f : ℕ → A → A) (m : A) (size p k t : ℕ) (x : A) (c : ℕ) → c ≡ clipped size p k → Turned f m t x → t ≤ c → c ≤ t
-    → x ≡ times (clipped size p k) f m
-finish-clipped f m size p k t x c e h a b = rw (← e) (finish f m t x h c a b)
 
 -- ---- the collection
 
