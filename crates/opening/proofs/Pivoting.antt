@@ -33,11 +33,11 @@ use Rattle.cells.specs.Layout.{PE, LEN, WANT, ELEN, DEGREE, W, NEXT, LAST, HEAD
 use Rattle.cells.specs.Links.{parent}
 use Rattle.cells.specs.View.{Room, at, rd, up}
 use Rattle.chain.proofs.Frame.{chained-same, chained-up}
-use Rattle.chain.proofs.Leave.{collected-left, pivot-left, taken-length, taken-other, taken-parent}
+use Rattle.chain.proofs.Leave.{collected-left, pivot-left, taken-other, taken-parent}
 use Rattle.chain.proofs.Unlink.{removed-other, removed-parent, removed-room}
 use Rattle.chain.specs.Chained.{Chained}
 use Rattle.chain.specs.Model.{removed, removedAll}
-use Rattle.packed.proofs.Frame.{len-of}
+use Rattle.packed.proofs.Frame.{inside-space, len-of}
 use Rattle.packed.proofs.Spaces.{space-same}
 use Rattle.packed.specs.Gather.{Outside}
 use Rattle.packed.specs.Places.{Owns, Space, places}
@@ -46,6 +46,7 @@ use Rattle.drawn.specs.Flags.{Flagged}
 use Rattle.drawn.specs.Log.{Logged}
 use Rattle.opening.specs.Begin as begin
 use Rattle.opening.proofs.Gathering.{Collects, Last, Same, collects, lasts, same-still}
+use Rattle.opening.proofs.Rooms.{taken-room}
 use Rattle.opening.proofs.Shown.{degree-passed, elements-passed, kind-passed, parent-now, variables-passed, weight-passed}
 
 module _ (n : ℕ) (l s : List ℤ) (t : State) (inv : Inv n t) (wd : Weighed t) (p d : ℕ) (which : pivot t ≡ found p d) (made base lim : ℕ) (small : n < 2 ^ 63)
@@ -121,12 +122,19 @@ module _ (n : ℕ) (l s : List ℤ) (t : State) (inv : Inv n t) (wd : Weighed t)
   after f i a b e = taken-other (x .lists) n (x .made .start) (x .made .count) (x .mem) f i a b e
 
   room₅ : Room n s₅
-  room₅ = let z = c .space .room .room in record { room = omega (arith, taken-length (x .lists) n (x .made .start) (x .made .count) (x .mem)) }
+  room₅ = taken-room n (x .lists) (x .made .start) (x .made .count) (x .mem) (c .space .room)
 
   new-there : entries (at (x .lists)) (x .made .start) (x .made .count) ≡ new
   new-there =
       let e = len-of (x .lists) (places n (x .mem)) (x .made .free) (upd (listOf (passed g p)) p new) (c .space .lists) p ∙ ap length (upd-same (listOf (passed g p)) p new) in
       rw (← c .place, c .count, ← e) (c .space .lists .lists p ∙ upd-same (listOf (passed g p)) p new)
+
+  -- and all of it is there
+  new-inside : 0 < x .made .count → x .made .start + x .made .count ≤ length (x .lists)
+  new-inside z =
+      let e = len-of (x .lists) (places n (x .mem)) (x .made .free) (upd (listOf (passed g p)) p new) (c .space .lists) p ∙ ap length (upd-same (listOf (passed g p)) p new) in
+      let o = inside-space (x .lists) (places n (x .mem)) (x .made .free) (upd (listOf (passed g p)) p new) (c .space .lists) p (omega (arith, e, c .count)) in
+      omega (arith, o, e, c .count, c .place)
 
   below : (v : ℕ) → In v new → v < n
   below v m = var-inside (inv .graph) v (collected-var (inv .graph) p pv v m)
@@ -140,7 +148,7 @@ module _ (n : ℕ) (l s : List ℤ) (t : State) (inv : Inv n t) (wd : Weighed t)
       let h = chained-same b (x .mem) (λ i. c .fields HEAD i refl refl refl refl refl refl refl) (λ i. c .fields NEXT i refl refl refl refl refl refl refl)
       (λ i. c .fields LAST i refl refl refl refl refl refl refl) (λ i. c .fields DEGREE i refl refl refl refl refl refl refl) in
       subst (λ (y : List ℕ). Chained n s₅ (queueOf (delisted g (t .queues) (p ∷ y)))) e
-      (collected-left n t (inv .queued) p pv (x .lists) (x .made .start) (x .made .count) (x .mem) (c .space .room) h
+      (collected-left n t (inv .queued) p pv (x .lists) (x .made .start) (x .made .count) new-inside (x .mem) (c .space .room) h
       (rw e (pivot-outside g p, distinct-collected g p))
       (λ v m. let k : In v new = rw e at m in
       (collected-var (inv .graph) p pv v k, c .fields DEGREE v refl refl refl refl refl refl refl ∙ same₂ DEGREE v refl refl refl refl ∙ dr .degrees v (below v k))))

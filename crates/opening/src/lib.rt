@@ -4,6 +4,7 @@
 ghost use mathlib.Core.Path.{_≡_};
 ghost use Prim.Native.Nat.{_+_, _<_, _^_};
 ghost use Rattle.cells.specs.View.{Room, at, rd, up};
+ghost use Rattle.cells.specs.Rows.{Rows};
 ghost use Rattle.cells.specs.Layout.{HNEXT, WANT};
 ghost use Rattle.chain.specs.Model.{removed, removedAll};
 ghost use Rattle.packed.specs.Gather.{outside, Brief};
@@ -189,10 +190,10 @@ fn gather_with(
     lim: usize,
     made: usize,
 ) -> packed::Made
-    requires { ⌜ Room n (now s) × (me < 2 ^ 63) × (k < 2 ^ 63) × (lim < 2 ^ 63) × (made < 2 ^ 63) ⌝ }
-    ensures { λ r. ⌜ (outside (now (lists .exit)) (now (s .exit)) r ≡ gatheredWith n me k base lim made (now (lists .entry)) (now (s .entry))) × Room n (now (s .exit)) × Brief r ⌝ }
+    requires { ⌜ Room n (now s) × Rows n (now lists) × (me < n) × (k < 2 ^ 63) × (lim < 2 ^ 63) × (made < 2 ^ 63) ⌝ }
+    ensures { λ r. ⌜ (outside (now (lists .exit)) (now (s .exit)) r ≡ gatheredWith n me k base lim made (now (lists .entry)) (now (s .entry))) × Room n (now (s .exit)) × Rows n (now (lists .exit)) × Brief r ⌝ }
 {
-    let p = cells::rd(s, n, cells::PE, me);
+    let p = cells::get(s, n, cells::PE, me);
     save(lists, s, n, p, k);
     let r = packed::gather_outside(lists, s, n, me, base, lim, made);
     absorb_all(s, n, me, k);
@@ -209,12 +210,12 @@ fn gather_alone(
     lim: usize,
     made: usize,
 ) -> packed::Made
-    requires { ⌜ Room n (now s) × (lim < 2 ^ 63) × (made < 2 ^ 63) ⌝ }
-    ensures { λ r. ⌜ (outside (now (lists .exit)) (now (s .exit)) r ≡ gatheredAlone n me base lim made (now (lists .entry)) (now (s .entry))) × Room n (now (s .exit)) × Brief r ⌝ }
+    requires { ⌜ Room n (now s) × Rows n (now lists) × (me < n) × (lim < 2 ^ 63) × (made < 2 ^ 63) ⌝ }
+    ensures { λ r. ⌜ (outside (now (lists .exit)) (now (s .exit)) r ≡ gatheredAlone n me base lim made (now (lists .entry)) (now (s .entry))) × Room n (now (s .exit)) × Rows n (now (lists .exit)) × Brief r ⌝ }
 {
-    let p = cells::rd(s, n, cells::PE, me);
+    let p = cells::get(s, n, cells::PE, me);
     let c = packed::gather_in_place(lists, s, n, me);
-    cells::up(s, n, cells::PE, me, p);
+    cells::set(s, n, cells::PE, me, p);
     packed::Made {
         start: p,
         count: c,
@@ -235,10 +236,10 @@ fn gather(
     lim: usize,
     made: usize,
 ) -> packed::Made
-    requires { ⌜ Room n (now s) × (me < 2 ^ 63) × (lim < 2 ^ 63) × (made < 2 ^ 63) ⌝ }
-    ensures { λ r. ⌜ (outside (now (lists .exit)) (now (s .exit)) r ≡ gathered n me base lim made (now (lists .entry)) (now (s .entry))) × Room n (now (s .exit)) × Brief r ⌝ }
+    requires { ⌜ Room n (now s) × Rows n (now lists) × (me < n) × (lim < 2 ^ 63) × (made < 2 ^ 63) ⌝ }
+    ensures { λ r. ⌜ (outside (now (lists .exit)) (now (s .exit)) r ≡ gathered n me base lim made (now (lists .entry)) (now (s .entry))) × Room n (now (s .exit)) × Rows n (now (lists .exit)) × Brief r ⌝ }
 {
-    let k = cells::rd(s, n, cells::ELEN, me);
+    let k = cells::get(s, n, cells::ELEN, me);
     if 0 < k {
         gather_with(lists, s, n, me, k, base, lim, made)
     } else {
@@ -248,16 +249,16 @@ fn gather(
 
 // The pivot `me` leaves its degree list and is wanted no more.
 fn leave(s: &mut [i64], n: usize, me: usize)
-    requires { ⌜ Room n (now s) ⌝ }
+    requires { ⌜ Room n (now s) × (me < n) ⌝ }
     ensures { λ _. ⌜ (now (s .exit) ≡ up n WANT (removed n (now (s .entry)) me) me 0) × Room n (now (s .exit)) ⌝ }
 {
     chain::take_out(s, n, me);
-    cells::up(s, n, cells::WANT, me, 0);
+    cells::set(s, n, cells::WANT, me, 0);
 }
 
 // The collected rows, in the `k` cells from `from` on, leave their degree lists.
 fn leave_all(lists: &[i64], s: &mut [i64], n: usize, from: usize, k: usize)
-    requires { ⌜ Room n (now s) × (from < 2 ^ 63) × (k < 2 ^ 63) ⌝ }
+    requires { ⌜ Room n (now s) × Rows n (now lists) × (from < 2 ^ 63) × (k < 2 ^ 63) ⌝ }
     ensures { λ _. ⌜ (now (s .exit) ≡ removedAll (now (lists .entry)) n from k (now (s .entry))) × Room n (now (s .exit)) ⌝ }
 {
     chain::take_all(lists, s, n, from, k);
@@ -273,8 +274,8 @@ pub fn begin_pivot(
     lim: usize,
     made: usize,
 ) -> packed::Made
-    requires { ⌜ Room n (now s) × (me < 2 ^ 63) × (lim < 2 ^ 63) × (made < 2 ^ 63) ⌝ }
-    ensures { λ r. ⌜ (outside (now (lists .exit)) (now (s .exit)) r ≡ pivoted n me base lim made (now (lists .entry)) (now (s .entry))) × Room n (now (s .exit)) × Brief r ⌝ }
+    requires { ⌜ Room n (now s) × Rows n (now lists) × (me < n) × (lim < 2 ^ 63) × (made < 2 ^ 63) ⌝ }
+    ensures { λ r. ⌜ (outside (now (lists .exit)) (now (s .exit)) r ≡ pivoted n me base lim made (now (lists .entry)) (now (s .entry))) × Room n (now (s .exit)) × Rows n (now (lists .exit)) × Brief r ⌝ }
 {
     leave(s, n, me);
     let r = gather(lists, s, n, me, base, lim, made);

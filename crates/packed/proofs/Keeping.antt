@@ -14,12 +14,12 @@ use Rattle.plain.proofs.Entries.{entries-none, entries-same, entries-snoc}
 use Rattle.plain.proofs.Turns.{times-keeps}
 use Rattle.plain.specs.Lists.{consIf, keep}
 use Rattle.plain.specs.Turns.{entries, upd}
+use Rattle.cells.proofs.Rows.{clipped-part}
 use Rattle.cells.proofs.Slices.{at-wr-other, at-wr-same, length-wr, plus-sum, split}
 use Rattle.cells.specs.Layout.{LEN, PE}
 use Rattle.cells.specs.View.{at, plus, rd, up, wr}
 use Rattle.packed.specs.Gather.{Cut, cut, keptOne, keptPart}
 use Rattle.packed.specs.Places.{Space, places}
-use Rattle.cells.proofs.Rows.{clipped-part}
 use Rattle.packed.proofs.Frame.{inside-space}
 use Rattle.packed.proofs.Gathers.{keep-no, keep-yes}
 use Rattle.packed.proofs.Spaces.{space-rewritten}

@@ -11,13 +11,13 @@ use Rattle.plain.proofs.Entries.{entries-drop, entries-none, entries-take}
 use Rattle.plain.proofs.Turns.{times-fold}
 use Rattle.plain.specs.Turns.{entries}
 use Rattle.definition.specs.Room.{Read, readList}
+use Rattle.cells.proofs.Rows.{clipped-part}
 use Rattle.cells.proofs.Slices.{plus-sum}
 use Rattle.cells.specs.Layout.{ELEN, LEN, PE}
 use Rattle.cells.specs.View.{Room, at, plus, rd}
 use Rattle.packed.specs.Places.{Mem, places}
 use Rattle.packed.specs.Reading.{afterParts, pickOne, picked, readAll, readParts}
 use Rattle.packed.specs.Tray.{Taking, emptyTray, ownPart, passedBy, taking, took, tookAll, tookElement, tookElements, tookOwn, tookPart}
-use Rattle.cells.proofs.Rows.{clipped-part}
 use Rattle.packed.proofs.Frame.{ends, inside-space, len-of}
 use Rattle.packed.proofs.Picked.{after-is, foldl-append}
 use Rattle.packed.proofs.Taking.{Holds, holds-none, holds-passed, holds-read, wants}

@@ -4,12 +4,12 @@ use Rattle.opening.proofs.gather.Statement.{statement}
 use Rattle.opening.proofs.gather.Tie as tie
 use Rattle.opening.proofs.gather.Reads as reads
 use Rattle.opening.proofs.gather.Lts as lts
-use Rattle.cells.proofs.rd.Reads as rd-reads
+use Rattle.cells.proofs.get.Reads as get-reads
 use Rattle.opening.proofs.gather_with.Reads as gather-with-reads
 use Rattle.opening.proofs.gather_alone.Reads as gather-alone-reads
 
-rd-requires : tie.Need-rd-requires
-rd-requires c κs = search needs
+get-requires : tie.Need-get-requires
+get-requires c κs = search needs
 
 gather-with-requires : tie.Need-gather-with-requires
 gather-with-requires c κs = search needs
@@ -39,7 +39,7 @@ pub gather-spec : {M : Type 1} → statement M
 gather-spec =
     tie.close
     (tie.spec
-    rd-requires
+    get-requires
     gather-with-requires
     gather-alone-requires
     same-length

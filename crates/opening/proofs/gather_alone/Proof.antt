@@ -4,18 +4,18 @@ use Rattle.opening.proofs.gather_alone.Statement.{statement}
 use Rattle.opening.proofs.gather_alone.Tie as tie
 use Rattle.opening.proofs.gather_alone.Reads as reads
 use Rattle.opening.proofs.gather_alone.Lts as lts
-use Rattle.cells.proofs.rd.Reads as rd-reads
-use Rattle.cells.proofs.up.Reads as up-reads
+use Rattle.cells.proofs.get.Reads as get-reads
+use Rattle.cells.proofs.set.Reads as set-reads
 use Rattle.packed.proofs.gather_in_place.Reads as gather-in-place-reads
 
-rd-requires : tie.Need-rd-requires
-rd-requires c κs = search needs
+get-requires : tie.Need-get-requires
+get-requires c κs = search needs
 
 gather-in-place-requires : tie.Need-gather-in-place-requires
 gather-in-place-requires c κs = search needs
 
-up-requires : tie.Need-up-requires
-up-requires c κs = search needs
+set-requires : tie.Need-set-requires
+set-requires c κs = search needs
 
 same-length : tie.Need-same-length
 same-length c = search needs
@@ -30,9 +30,9 @@ pub gather-alone-spec : {M : Type 1} → statement M
 gather-alone-spec =
     tie.close
     (tie.spec
-    rd-requires
+    get-requires
     gather-in-place-requires
-    up-requires
+    set-requires
     same-length
     same-length-2
     returns)

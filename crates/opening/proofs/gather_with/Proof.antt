@@ -4,13 +4,13 @@ use Rattle.opening.proofs.gather_with.Statement.{statement}
 use Rattle.opening.proofs.gather_with.Tie as tie
 use Rattle.opening.proofs.gather_with.Reads as reads
 use Rattle.opening.proofs.gather_with.Lts as lts
-use Rattle.cells.proofs.rd.Reads as rd-reads
+use Rattle.cells.proofs.get.Reads as get-reads
 use Rattle.opening.proofs.save.Reads as save-reads
 use Rattle.packed.proofs.gather_outside.Reads as gather-outside-reads
 use Rattle.opening.proofs.absorb_all.Reads as absorb-all-reads
 
-rd-requires : tie.Need-rd-requires
-rd-requires c κs = search needs
+get-requires : tie.Need-get-requires
+get-requires c κs = search needs
 
 save-requires : tie.Need-save-requires
 save-requires c κs = search needs
@@ -34,7 +34,7 @@ pub gather-with-spec : {M : Type 1} → statement M
 gather-with-spec =
     tie.close
     (tie.spec
-    rd-requires
+    get-requires
     save-requires
     gather-outside-requires
     absorb-all-requires

@@ -7,15 +7,12 @@ use Rattle.packed.proofs.add_length.Lts as lts
 use Rattle.cells.proofs.plus.Reads as plus-reads
 use Rattle.cells.proofs.rd.Reads as rd-reads
 
--- src/lib.rt:336:9
 rd-requires : tie.Need-rd-requires
 rd-requires c κs = search needs
 
--- src/lib.rt:337:5
 plus-requires : tie.Need-plus-requires
 plus-requires c κs = search needs
 
--- src/lib.rt:332:1
 returns : tie.Need-returns
 returns c = search (needs, length-step)
 

@@ -17,27 +17,21 @@ Inv-loop s n sum₀ j₀ sum j = Turned (addedLength n s) sum₀ j sum × (sum <
 abbrev μ-loop : tie.MeasureT-loop
 μ-loop s n sum₀ j₀ sum j = n - j
 
--- src/lib.rt:346:5
 loop-holds : tie.Need-loop-holds Inv-loop μ-loop
 loop-holds c = search (needs, begin)
 
--- src/lib.rt:347:9
 add-length-requires : tie.Need-add-length-requires Inv-loop μ-loop
 add-length-requires c κs = search needs
 
--- src/lib.rt:346:9
 add-j : tie.Need-add-j Inv-loop μ-loop
 add-j c = search needs
 
--- src/lib.rt:346:5
 loop-less : tie.Need-loop-less Inv-loop μ-loop
 loop-less c = search needs
 
--- src/lib.rt:346:5
 loop-again : tie.Need-loop-again Inv-loop μ-loop
 loop-again c = search (needs, turn)
 
--- src/lib.rt:341:1
 returns : tie.Need-returns Inv-loop μ-loop
 unfolding allLengths
 returns c = search (needs, finish)

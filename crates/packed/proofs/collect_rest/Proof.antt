@@ -9,31 +9,24 @@ use Rattle.packed.proofs.all_lengths.Reads as all-lengths-reads
 use Rattle.packed.proofs.collect.Reads as collect-reads
 use Rattle.packed.proofs.drop_all.Reads as drop-all-reads
 
--- src/lib.rt:368:9
 all-lengths-requires : tie.Need-all-lengths-requires
 all-lengths-requires c κs = search needs
 
--- src/lib.rt:369:5
 drop-all-requires : tie.Need-drop-all-requires
 drop-all-requires c κs = search needs
 
--- src/lib.rt:370:9
 collect-requires : tie.Need-collect-requires
 collect-requires c κs = search needs
 
--- src/lib.rt:371:9
 less-requires : tie.Need-less-requires
 less-requires c κs = search needs
 
--- src/lib.rt:355:1
 same-length : tie.Need-same-length
 same-length c = search needs
 
--- src/lib.rt:355:1
 same-length-2 : tie.Need-same-length-2
 same-length-2 c = search needs
 
--- src/lib.rt:355:1
 returns : tie.Need-returns
 returns c = search (needs, rest-step)
 

@@ -19,39 +19,30 @@ Inv-loop lists₀ n p e len k₀ lists k = Turned (λ t m. wr m (e + t) (at m (p
 abbrev μ-loop : tie.MeasureT-loop
 μ-loop lists₀ n p e len k₀ lists k = len - k
 
--- src/lib.rt:41:5
 loop-holds : tie.Need-loop-holds Inv-loop μ-loop
 loop-holds c = search (needs, begin)
 
--- src/lib.rt:42:26
 add-copy-row : tie.Need-add-copy-row Inv-loop μ-loop
 add-copy-row c = search needs
 
--- src/lib.rt:42:33
 add-copy-row-2 : tie.Need-add-copy-row-2 Inv-loop μ-loop
 add-copy-row-2 c = search needs
 
--- src/lib.rt:42:9
 copy-row-requires : tie.Need-copy-row-requires Inv-loop μ-loop
 copy-row-requires c κs = search needs
 
--- src/lib.rt:41:9
 add-k : tie.Need-add-k Inv-loop μ-loop
 add-k c = search needs
 
--- src/lib.rt:41:5
 loop-less : tie.Need-loop-less Inv-loop μ-loop
 loop-less c = search needs
 
--- src/lib.rt:41:5
 loop-again : tie.Need-loop-again Inv-loop μ-loop
 loop-again c = search (needs, turn)
 
--- src/lib.rt:37:1
 same-length : tie.Need-same-length Inv-loop μ-loop
 same-length c = search needs
 
--- src/lib.rt:37:1
 returns : tie.Need-returns Inv-loop μ-loop
 unfolding copied
 returns c = search (needs, finish)

@@ -6,15 +6,12 @@ use Rattle.packed.proofs.count.Reads as reads
 use Rattle.packed.proofs.count.Lts as lts
 use Rattle.cells.proofs.plus.Reads as plus-reads
 
--- src/lib.rt:173:9
 plus-requires : tie.Need-plus-requires
 plus-requires c κs = search needs
 
--- src/lib.rt:169:1
 returns : tie.Need-returns
 returns c = search (needs, count-full)
 
--- src/lib.rt:169:1
 returns-2 : tie.Need-returns-2
 returns-2 c = search (needs, count-free)
 

@@ -8,27 +8,21 @@ use Rattle.cells.proofs.rd.Reads as rd-reads
 use Rattle.cells.proofs.up.Reads as up-reads
 use Rattle.packed.proofs.drop_part.Reads as drop-part-reads
 
--- src/lib.rt:325:9
 rd-requires : tie.Need-rd-requires
 rd-requires c κs = search needs
 
--- src/lib.rt:326:9
 rd-requires-2 : tie.Need-rd-requires-2
 rd-requires-2 c κs = search needs
 
--- src/lib.rt:327:5
 drop-part-requires : tie.Need-drop-part-requires
 drop-part-requires c κs = search needs
 
--- src/lib.rt:328:5
 up-requires : tie.Need-up-requires
 up-requires c κs = search needs
 
--- src/lib.rt:321:1
 same-length : tie.Need-same-length
 same-length c = search needs
 
--- src/lib.rt:321:1
 returns : tie.Need-returns
 returns c = search (needs, dropall-step)
 

@@ -7,19 +7,15 @@ use Rattle.packed.proofs.drop_at.Lts as lts
 use Rattle.cells.proofs.peek.Reads as peek-reads
 use Rattle.cells.proofs.up.Reads as up-reads
 
--- src/lib.rt:306:9
 peek-requires : tie.Need-peek-requires
 peek-requires c κs = search needs
 
--- src/lib.rt:307:5
 up-requires : tie.Need-up-requires
 up-requires c κs = search needs
 
--- src/lib.rt:302:1
 same-length : tie.Need-same-length
 same-length c = search needs
 
--- src/lib.rt:302:1
 returns : tie.Need-returns
 returns c = search (needs, drop-step)
 

@@ -18,35 +18,27 @@ Inv-loop lists s₀ n p k t₀ s t = Turned (λ j. droppedAt n lists (p + j)) s�
 abbrev μ-loop : tie.MeasureT-loop
 μ-loop lists s₀ n p k t₀ s t = k - t
 
--- src/lib.rt:315:5
 loop-holds : tie.Need-loop-holds Inv-loop μ-loop
 loop-holds c = search (needs, begin)
 
--- src/lib.rt:316:30
 add-drop-at : tie.Need-add-drop-at Inv-loop μ-loop
 add-drop-at c = search needs
 
--- src/lib.rt:316:9
 drop-at-requires : tie.Need-drop-at-requires Inv-loop μ-loop
 drop-at-requires c κs = search needs
 
--- src/lib.rt:315:9
 add-t : tie.Need-add-t Inv-loop μ-loop
 add-t c = search needs
 
--- src/lib.rt:315:5
 loop-less : tie.Need-loop-less Inv-loop μ-loop
 loop-less c = search needs
 
--- src/lib.rt:315:5
 loop-again : tie.Need-loop-again Inv-loop μ-loop
 loop-again c = search (needs, turn)
 
--- src/lib.rt:311:1
 same-length : tie.Need-same-length Inv-loop μ-loop
 same-length c = search needs
 
--- src/lib.rt:311:1
 returns : tie.Need-returns Inv-loop μ-loop
 unfolding droppedPart
 returns c = search (needs, finish)

@@ -6,19 +6,15 @@ use Rattle.packed.proofs.due.Reads as reads
 use Rattle.packed.proofs.due.Lts as lts
 use Rattle.cells.proofs.rd.Reads as rd-reads
 
--- src/lib.rt:51:9
 rd-requires : tie.Need-rd-requires
 rd-requires c κs = search needs
 
--- src/lib.rt:52:18
 rd-requires-2 : tie.Need-rd-requires-2
 rd-requires-2 c κs = search needs
 
--- src/lib.rt:47:1
 returns : tie.Need-returns
 returns c = search (needs, due-yes)
 
--- src/lib.rt:47:1
 returns-2 : tie.Need-returns-2
 returns-2 c = search (needs, due-no)
 

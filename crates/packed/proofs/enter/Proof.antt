@@ -7,31 +7,24 @@ use Rattle.packed.proofs.enter.Lts as lts
 use Rattle.cells.proofs.set.Reads as set-reads
 use Rattle.packed.proofs.lay.Reads as lay-reads
 
--- src/lib.rt:146:5
 lay-requires : tie.Need-lay-requires
 lay-requires c κs = search needs
 
--- src/lib.rt:147:5
 set-requires : tie.Need-set-requires
 set-requires c κs = search needs
 
--- src/lib.rt:148:5
 set-requires-2 : tie.Need-set-requires-2
 set-requires-2 c κs = search needs
 
--- src/lib.rt:149:5
 put-requires : tie.Need-put-requires
 put-requires c κs = search needs
 
--- src/lib.rt:142:1
 same-length : tie.Need-same-length
 same-length c = search needs
 
--- src/lib.rt:142:1
 same-length-2 : tie.Need-same-length-2
 same-length-2 c = search needs
 
--- src/lib.rt:142:1
 returns : tie.Need-returns
 returns c = search (needs, enter-step)
 

@@ -9,35 +9,27 @@ use Rattle.cells.proofs.set.Reads as set-reads
 use Rattle.packed.proofs.lay.Reads as lay-reads
 use Rattle.packed.proofs.take_part.Reads as take-part-reads
 
--- src/lib.rt:451:9
 get-requires : tie.Need-get-requires
 get-requires c κs = search needs
 
--- src/lib.rt:452:9
 get-requires-2 : tie.Need-get-requires-2
 get-requires-2 c κs = search needs
 
--- src/lib.rt:453:9
 take-part-requires : tie.Need-take-part-requires
 take-part-requires c κs = search needs
 
--- src/lib.rt:454:5
 lay-requires : tie.Need-lay-requires
 lay-requires c κs = search needs
 
--- src/lib.rt:455:5
 set-requires : tie.Need-set-requires
 set-requires c κs = search needs
 
--- src/lib.rt:447:1
 same-length : tie.Need-same-length
 same-length c = search needs
 
--- src/lib.rt:447:1
 same-length-2 : tie.Need-same-length-2
 same-length-2 c = search needs
 
--- src/lib.rt:447:1
 returns : tie.Need-returns
 returns c = search (needs, inside-step)
 

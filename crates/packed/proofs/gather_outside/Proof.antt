@@ -10,35 +10,27 @@ use Rattle.packed.proofs.make_room.Reads as make-room-reads
 use Rattle.packed.proofs.summed.Reads as summed-reads
 use Rattle.packed.proofs.take_all.Reads as take-all-reads
 
--- src/lib.rt:439:9
 less-requires : tie.Need-less-requires
 less-requires c κs = search needs
 
--- src/lib.rt:440:9
 take-all-requires : tie.Need-take-all-requires
 take-all-requires c κs = search needs
 
--- src/lib.rt:441:9
 make-room-requires : tie.Need-make-room-requires
 make-room-requires c κs = search needs
 
--- src/lib.rt:442:5
 enter-requires : tie.Need-enter-requires
 enter-requires c κs = search needs
 
--- src/lib.rt:443:5
 summed-requires : tie.Need-summed-requires
 summed-requires c κs = search needs
 
--- src/lib.rt:427:1
 same-length : tie.Need-same-length
 same-length c = search needs
 
--- src/lib.rt:427:1
 same-length-2 : tie.Need-same-length-2
 same-length-2 c = search needs
 
--- src/lib.rt:427:1
 returns : tie.Need-returns
 returns c = search (needs, outside-step)
 

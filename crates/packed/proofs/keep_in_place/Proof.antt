@@ -20,43 +20,33 @@ Inv-loop lists₀ s n f p k m cnt₀ t₀ lists cnt t = Turned (λ j x. keptOne 
 abbrev μ-loop : tie.MeasureT-loop
 μ-loop lists₀ s n f p k m cnt₀ t₀ lists cnt t = m - t
 
--- src/lib.rt:540:9
 clip-requires : tie.Need-clip-requires Inv-loop μ-loop
 clip-requires c κs = search needs
 
--- src/lib.rt:542:5
 loop-holds : tie.Need-loop-holds Inv-loop μ-loop
 loop-holds c = search (needs, begin)
 
--- src/lib.rt:543:40
 add-keep-one : tie.Need-add-keep-one Inv-loop μ-loop
 add-keep-one c = search needs
 
--- src/lib.rt:543:47
 add-keep-one-2 : tie.Need-add-keep-one-2 Inv-loop μ-loop
 add-keep-one-2 c = search needs
 
--- src/lib.rt:543:9
 keep-one-requires : tie.Need-keep-one-requires Inv-loop μ-loop
 keep-one-requires c κs = search needs
 
--- src/lib.rt:542:9
 add-t : tie.Need-add-t Inv-loop μ-loop
 add-t c = search needs
 
--- src/lib.rt:542:5
 loop-less : tie.Need-loop-less Inv-loop μ-loop
 loop-less c = search needs
 
--- src/lib.rt:542:5
 loop-again : tie.Need-loop-again Inv-loop μ-loop
 loop-again c = search (needs, turn)
 
--- src/lib.rt:536:1
 same-length : tie.Need-same-length Inv-loop μ-loop
 same-length c = search needs
 
--- src/lib.rt:536:1
 returns : tie.Need-returns Inv-loop μ-loop
 unfolding keptPart
 returns c = search (needs, clipped-finish)

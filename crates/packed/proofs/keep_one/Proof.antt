@@ -9,35 +9,27 @@ use Rattle.cells.proofs.plus.Reads as plus-reads
 use Rattle.cells.proofs.put_row.Reads as put-row-reads
 use Rattle.cells.proofs.get.Reads as get-reads
 
--- src/lib.rt:466:9
 row-requires : tie.Need-row-requires
 row-requires c κs = search needs
 
--- src/lib.rt:467:9
 get-requires : tie.Need-get-requires
 get-requires c κs = search needs
 
--- src/lib.rt:469:9
 put-row-requires : tie.Need-put-row-requires
 put-row-requires c κs = search needs
 
--- src/lib.rt:470:9
 plus-requires : tie.Need-plus-requires
 plus-requires c κs = search needs
 
--- src/lib.rt:462:1
 same-length : tie.Need-same-length
 same-length c = search needs
 
--- src/lib.rt:462:1
 returns : tie.Need-returns
 returns c = search (needs, keep-yes, keep-few)
 
--- src/lib.rt:462:1
 same-length-2 : tie.Need-same-length-2
 same-length-2 c = search needs
 
--- src/lib.rt:462:1
 returns-2 : tie.Need-returns-2
 returns-2 c = search (needs, keep-no)
 

@@ -20,35 +20,27 @@ Inv-loop lists₀ s n e k t₀ lists t = Turned (λ i. laidOne n (e + i) (rd n T
 abbrev μ-loop : tie.MeasureT-loop
 μ-loop lists₀ s n e k t₀ lists t = k - t
 
--- src/lib.rt:136:5
 loop-holds : tie.Need-loop-holds Inv-loop μ-loop
 loop-holds c = search (needs, begin)
 
--- src/lib.rt:137:33
 add-lay-one : tie.Need-add-lay-one Inv-loop μ-loop
 add-lay-one c = search needs
 
--- src/lib.rt:137:9
 lay-one-requires : tie.Need-lay-one-requires Inv-loop μ-loop
 lay-one-requires c κs = search needs
 
--- src/lib.rt:136:9
 add-t : tie.Need-add-t Inv-loop μ-loop
 add-t c = search needs
 
--- src/lib.rt:136:5
 loop-less : tie.Need-loop-less Inv-loop μ-loop
 loop-less c = search needs
 
--- src/lib.rt:136:5
 loop-again : tie.Need-loop-again Inv-loop μ-loop
 loop-again c = search (needs, turn)
 
--- src/lib.rt:132:1
 same-length : tie.Need-same-length Inv-loop μ-loop
 same-length c = search needs
 
--- src/lib.rt:132:1
 returns : tie.Need-returns Inv-loop μ-loop
 unfolding laid
 returns c = search (needs, finish)

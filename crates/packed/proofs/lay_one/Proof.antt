@@ -7,23 +7,18 @@ use Rattle.packed.proofs.lay_one.Lts as lts
 use Rattle.cells.proofs.poke_row.Reads as poke-row-reads
 use Rattle.cells.proofs.tab.Reads as tab-reads
 
--- src/lib.rt:137:9
 tab-requires : tie.Need-tab-requires
 tab-requires c κs = search needs
 
--- src/lib.rt:139:9
 poke-row-requires : tie.Need-poke-row-requires
 poke-row-requires c κs = search needs
 
--- src/lib.rt:133:1
 same-length : tie.Need-same-length
 same-length c = search needs
 
--- src/lib.rt:133:1
 returns : tie.Need-returns
 returns c = search (needs, lay-yes)
 
--- src/lib.rt:133:1
 returns-2 : tie.Need-returns-2
 returns-2 c = search (needs, lay-no)
 

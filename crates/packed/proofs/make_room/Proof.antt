@@ -7,35 +7,27 @@ use Rattle.packed.proofs.make_room.Lts as lts
 use Rattle.packed.proofs.collect_rest.Reads as collect-rest-reads
 use Rattle.packed.proofs.drop_all.Reads as drop-all-reads
 
--- src/lib.rt:390:9
 collect-rest-requires : tie.Need-collect-rest-requires
 collect-rest-requires c κs = search needs
 
--- src/lib.rt:392:9
 drop-all-requires : tie.Need-drop-all-requires
 drop-all-requires c κs = search needs
 
--- src/lib.rt:376:1
 same-length : tie.Need-same-length
 same-length c = search needs
 
--- src/lib.rt:376:1
 same-length-2 : tie.Need-same-length-2
 same-length-2 c = search needs
 
--- src/lib.rt:376:1
 returns : tie.Need-returns
 returns c = search (needs, room-yes-step)
 
--- src/lib.rt:376:1
 same-length-3 : tie.Need-same-length-3
 same-length-3 c = search needs
 
--- src/lib.rt:376:1
 same-length-4 : tie.Need-same-length-4
 same-length-4 c = search needs
 
--- src/lib.rt:376:1
 returns-2 : tie.Need-returns-2
 returns-2 c = search (needs, room-no-step)
 

@@ -19,35 +19,27 @@ Inv-loop lists₀ s₀ n top start end₀ j₀ lists s end j = Turned (movedOne 
 abbrev μ-loop : tie.MeasureT-loop
 μ-loop lists₀ s₀ n top start end₀ j₀ lists s end j = n - j
 
--- src/lib.rt:77:5
 loop-holds : tie.Need-loop-holds Inv-loop μ-loop
 loop-holds c = search (needs, begin)
 
--- src/lib.rt:78:9
 move-one-requires : tie.Need-move-one-requires Inv-loop μ-loop
 move-one-requires c κs = search needs
 
--- src/lib.rt:77:9
 add-j : tie.Need-add-j Inv-loop μ-loop
 add-j c = search needs
 
--- src/lib.rt:77:5
 loop-less : tie.Need-loop-less Inv-loop μ-loop
 loop-less c = search needs
 
--- src/lib.rt:77:5
 loop-again : tie.Need-loop-again Inv-loop μ-loop
 loop-again c = search (needs, turn)
 
--- src/lib.rt:72:1
 same-length : tie.Need-same-length Inv-loop μ-loop
 same-length c = search needs
 
--- src/lib.rt:72:1
 same-length-2 : tie.Need-same-length-2 Inv-loop μ-loop
 same-length-2 c = search needs
 
--- src/lib.rt:72:1
 returns : tie.Need-returns Inv-loop μ-loop
 unfolding movedLow
 returns c = search (needs, finish)

@@ -19,35 +19,27 @@ Inv-loop lists₀ s₀ n top cnt start end₀ t₀ lists s end t = Turned (moved
 abbrev μ-loop : tie.MeasureT-loop
 μ-loop lists₀ s₀ n top cnt start end₀ t₀ lists s end t = cnt - t
 
--- src/lib.rt:98:5
 loop-holds : tie.Need-loop-holds Inv-loop μ-loop
 loop-holds c = search (needs, begin)
 
--- src/lib.rt:99:9
 move-next-requires : tie.Need-move-next-requires Inv-loop μ-loop
 move-next-requires c κs = search needs
 
--- src/lib.rt:98:9
 add-t : tie.Need-add-t Inv-loop μ-loop
 add-t c = search needs
 
--- src/lib.rt:98:5
 loop-less : tie.Need-loop-less Inv-loop μ-loop
 loop-less c = search needs
 
--- src/lib.rt:98:5
 loop-again : tie.Need-loop-again Inv-loop μ-loop
 loop-again c = search (needs, turn)
 
--- src/lib.rt:93:1
 same-length : tie.Need-same-length Inv-loop μ-loop
 same-length c = search needs
 
--- src/lib.rt:93:1
 same-length-2 : tie.Need-same-length-2 Inv-loop μ-loop
 same-length-2 c = search needs
 
--- src/lib.rt:93:1
 returns : tie.Need-returns Inv-loop μ-loop
 unfolding movedNew
 returns c = search (needs, finish)

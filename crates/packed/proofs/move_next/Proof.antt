@@ -7,23 +7,18 @@ use Rattle.packed.proofs.move_next.Lts as lts
 use Rattle.cells.proofs.tab.Reads as tab-reads
 use Rattle.packed.proofs.move_one.Reads as move-one-reads
 
--- src/lib.rt:88:9
 tab-requires : tie.Need-tab-requires
 tab-requires c κs = search needs
 
--- src/lib.rt:89:5
 move-one-requires : tie.Need-move-one-requires
 move-one-requires c κs = search needs
 
--- src/lib.rt:84:1
 same-length : tie.Need-same-length
 same-length c = search needs
 
--- src/lib.rt:84:1
 same-length-2 : tie.Need-same-length-2
 same-length-2 c = search needs
 
--- src/lib.rt:84:1
 returns : tie.Need-returns
 returns c = search (needs, next-step)
 

@@ -10,43 +10,33 @@ use Rattle.packed.proofs.copy_down.Reads as copy-down-reads
 use Rattle.packed.proofs.due.Reads as due-reads
 use Rattle.cells.proofs.plus.Reads as plus-reads
 
--- src/lib.rt:60:9
 due-requires : tie.Need-due-requires
 due-requires c κs = search needs
 
--- src/lib.rt:62:13
 rd-requires : tie.Need-rd-requires
 rd-requires c κs = search needs
 
--- src/lib.rt:63:9
 copy-down-requires : tie.Need-copy-down-requires
 copy-down-requires c κs = search needs
 
--- src/lib.rt:64:9
 up-requires : tie.Need-up-requires
 up-requires c κs = search needs
 
--- src/lib.rt:65:9
 plus-requires : tie.Need-plus-requires
 plus-requires c κs = search needs
 
--- src/lib.rt:56:1
 same-length : tie.Need-same-length
 same-length c = search needs
 
--- src/lib.rt:56:1
 same-length-2 : tie.Need-same-length-2
 same-length-2 c = search needs
 
--- src/lib.rt:56:1
 returns : tie.Need-returns
 returns c = search (needs, one-yes)
 
--- src/lib.rt:56:1
 same-length-3 : tie.Need-same-length-3
 same-length-3 c = search needs
 
--- src/lib.rt:56:1
 returns-2 : tie.Need-returns-2
 returns-2 c = search (needs, one-no)
 

@@ -8,27 +8,21 @@ use Rattle.cells.proofs.less.Reads as less-reads
 use Rattle.cells.proofs.plus.Reads as plus-reads
 use Rattle.cells.proofs.get.Reads as get-reads
 
--- src/lib.rt:279:9
 get-requires : tie.Need-get-requires
 get-requires c κs = search needs
 
--- src/lib.rt:280:9
 get-requires-2 : tie.Need-get-requires-2
 get-requires-2 c κs = search needs
 
--- src/lib.rt:281:9
 get-requires-3 : tie.Need-get-requires-3
 get-requires-3 c κs = search needs
 
--- src/lib.rt:282:9
 plus-requires : tie.Need-plus-requires
 plus-requires c κs = search needs
 
--- src/lib.rt:283:9
 less-requires : tie.Need-less-requires
 less-requires c κs = search needs
 
--- src/lib.rt:275:1
 returns : tie.Need-returns
 returns c = search (needs, own-step)
 

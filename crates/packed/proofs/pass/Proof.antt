@@ -6,11 +6,9 @@ use Rattle.packed.proofs.pass.Reads as reads
 use Rattle.packed.proofs.pass.Lts as lts
 use Rattle.cells.proofs.plus.Reads as plus-reads
 
--- src/lib.rt:186:9
 plus-requires : tie.Need-plus-requires
 plus-requires c κs = search needs
 
--- src/lib.rt:182:1
 returns : tie.Need-returns
 returns c = search (needs, pass-step)
 

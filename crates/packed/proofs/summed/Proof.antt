@@ -6,19 +6,15 @@ use Rattle.packed.proofs.summed.Reads as reads
 use Rattle.packed.proofs.summed.Lts as lts
 use Rattle.cells.proofs.plus.Reads as plus-reads
 
--- src/lib.rt:412:9
 plus-requires : tie.Need-plus-requires
 plus-requires c κs = search needs
 
--- src/lib.rt:413:9
 plus-requires-2 : tie.Need-plus-requires-2
 plus-requires-2 c κs = search needs
 
--- src/lib.rt:408:1
 returns : tie.Need-returns
 returns c = search (needs, sum-yes)
 
--- src/lib.rt:408:1
 returns-2 : tie.Need-returns-2
 returns-2 c = search (needs, sum-no)
 

@@ -7,19 +7,15 @@ use Rattle.packed.proofs.take_at.Lts as lts
 use Rattle.cells.proofs.row.Reads as row-reads
 use Rattle.packed.proofs.take_one.Reads as take-one-reads
 
--- src/lib.rt:211:9
 row-requires : tie.Need-row-requires
 row-requires c κs = search needs
 
--- src/lib.rt:212:5
 take-one-requires : tie.Need-take-one-requires
 take-one-requires c κs = search needs
 
--- src/lib.rt:207:1
 same-length : tie.Need-same-length
 same-length c = search needs
 
--- src/lib.rt:207:1
 returns : tie.Need-returns
 returns c = search (needs, take-step)
 

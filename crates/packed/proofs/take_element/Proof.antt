@@ -9,31 +9,24 @@ use Rattle.cells.proofs.get.Reads as get-reads
 use Rattle.packed.proofs.pass.Reads as pass-reads
 use Rattle.packed.proofs.take_part.Reads as take-part-reads
 
--- src/lib.rt:241:9
 row-requires : tie.Need-row-requires
 row-requires c κs = search needs
 
--- src/lib.rt:242:9
 get-requires : tie.Need-get-requires
 get-requires c κs = search needs
 
--- src/lib.rt:243:9
 get-requires-2 : tie.Need-get-requires-2
 get-requires-2 c κs = search needs
 
--- src/lib.rt:244:9
 pass-requires : tie.Need-pass-requires
 pass-requires c κs = search needs
 
--- src/lib.rt:245:5
 take-part-requires : tie.Need-take-part-requires
 take-part-requires c κs = search needs
 
--- src/lib.rt:237:1
 same-length : tie.Need-same-length
 same-length c = search needs
 
--- src/lib.rt:237:1
 returns : tie.Need-returns
 returns c = search (needs, element-step)
 

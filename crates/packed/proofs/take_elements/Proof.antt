@@ -20,39 +20,30 @@ Inv-loop lists s₀ n p k quota m t₀ i₀ s t i = Turned (λ j. tookElement n 
 abbrev μ-loop : tie.MeasureT-loop
 μ-loop lists s₀ n p k quota m t₀ i₀ s t i = m - i
 
--- src/lib.rt:278:9
 clip-requires : tie.Need-clip-requires Inv-loop μ-loop
 clip-requires c κs = search needs
 
--- src/lib.rt:280:5
 loop-holds : tie.Need-loop-holds Inv-loop μ-loop
 loop-holds c = search (needs, begin)
 
--- src/lib.rt:281:39
 add-take-element : tie.Need-add-take-element Inv-loop μ-loop
 add-take-element c = search needs
 
--- src/lib.rt:281:9
 take-element-requires : tie.Need-take-element-requires Inv-loop μ-loop
 take-element-requires c κs = search needs
 
--- src/lib.rt:280:9
 add-i : tie.Need-add-i Inv-loop μ-loop
 add-i c = search needs
 
--- src/lib.rt:280:5
 loop-less : tie.Need-loop-less Inv-loop μ-loop
 loop-less c = search needs
 
--- src/lib.rt:280:5
 loop-again : tie.Need-loop-again Inv-loop μ-loop
 loop-again c = search (needs, turn)
 
--- src/lib.rt:266:1
 same-length : tie.Need-same-length Inv-loop μ-loop
 same-length c = search needs
 
--- src/lib.rt:266:1
 returns : tie.Need-returns Inv-loop μ-loop
 unfolding tookElements
 returns c = search (needs, clipped-finish)

@@ -11,43 +11,33 @@ use Rattle.cells.proofs.set.Reads as set-reads
 use Rattle.packed.proofs.count.Reads as count-reads
 use Rattle.packed.proofs.pass.Reads as pass-reads
 
--- src/lib.rt:195:9
 get-requires : tie.Need-get-requires
 get-requires c κs = search needs
 
--- src/lib.rt:197:9
 set-requires : tie.Need-set-requires
 set-requires c κs = search needs
 
--- src/lib.rt:198:9
 put-requires : tie.Need-put-requires
 put-requires c κs = search needs
 
--- src/lib.rt:199:13
 plus-requires : tie.Need-plus-requires
 plus-requires c κs = search needs
 
--- src/lib.rt:200:9
 count-requires : tie.Need-count-requires
 count-requires c κs = search needs
 
--- src/lib.rt:202:9
 pass-requires : tie.Need-pass-requires
 pass-requires c κs = search needs
 
--- src/lib.rt:191:1
 same-length : tie.Need-same-length
 same-length c = search needs
 
--- src/lib.rt:191:1
 returns : tie.Need-returns
 returns c = search (needs, take-yes)
 
--- src/lib.rt:191:1
 same-length-2 : tie.Need-same-length-2
 same-length-2 c = search needs
 
--- src/lib.rt:191:1
 returns-2 : tie.Need-returns-2
 returns-2 c = search (needs, take-no)
 
