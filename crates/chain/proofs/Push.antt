@@ -9,7 +9,6 @@ use mathlib.Core.List.{List, [], _∷_}
 use borrow.Author.Tests.{lt-ltb}
 use lib.Dec.{eqb}
 use lib.IntN.{ℤ}
-use lib.ListN.{length}
 use Rattle.plain.specs.Lists.{member}
 use Rattle.plain.specs.Members.{Distinct}
 use Rattle.plain.specs.Turns.{upd}
@@ -18,6 +17,7 @@ use Rattle.plain.proofs.Members.{not-here, not-there}
 use Rattle.cells.specs.Layout.{DEGREE, NEXT, LAST, HEAD}
 use Rattle.cells.specs.View.{rd, Room}
 use Rattle.cells.specs.Links.{parent}
+use Rattle.cells.proofs.Fields.{room-up}
 use Rattle.cells.proofs.Slices.{same?}
 use Rattle.cells.proofs.Laws.{mem, room-yes}
 use Rattle.chain.specs.Model.{linkedBefore, pushed}
@@ -37,12 +37,9 @@ module _ (n : ℕ) (s : List ℤ) (d i : ℕ) where
   unfolding pushed linkedBefore
   pushed-parent j = simp mem
 
-  pub pushed-length : length (pushed n s d i) ≡ length s
-  unfolding pushed linkedBefore
-  pushed-length = simp mem
-
   pub pushed-room : Room n s → Room n (pushed n s d i)
-  pushed-room h = record { room = omega (arith, h .room, pushed-length) }
+  unfolding pushed linkedBefore
+  pushed-room h = room-up n HEAD _ d i (room-up n DEGREE _ i d (room-up n LAST _ i n (room-up n NEXT _ i _ (room-up n LAST s _ i h))))
 
   pub head-other : (e : ℕ) → d ≢ e → rd n HEAD (pushed n s d i) e ≡ rd n HEAD s e
   unfolding pushed linkedBefore

@@ -28,7 +28,7 @@ use Rattle.cells.specs.Layout.{PE, LEN, WANT, ELEN, DEGREE, W, NEXT, LAST, HEAD
 use Rattle.cells.specs.Links as links
 use Rattle.cells.specs.View.{Room, at, rd}
 use Rattle.chain.proofs.Frame.{chained-same}
-use Rattle.chain.proofs.Opening.{enlisted-degrees, enlisted-length, enlisted-other, enlisted-parent, opened-start}
+use Rattle.chain.proofs.Opening.{enlisted-degrees, enlisted-other, enlisted-parent, enlisted-room, opened-start}
 use Rattle.chain.specs.Chained.{Chained}
 use Rattle.chain.specs.Model.{enlistedAll}
 use Rattle.packed.proofs.Beginning.{space-packed}
@@ -98,7 +98,7 @@ module _ (limit : ℕ) (nbrs : List (List ℕ)) (nb : Neighbourly nbrs) (l s : L
   len₂ v = same₂ LEN v refl refl refl refl ∙ len₁ v
 
   room₂ : Room n s₂
-  room₂ = let z = b .room .room in record { room = omega (arith, enlisted-length n limit s₁) }
+  room₂ = enlisted-room n limit s₁ (b .room)
 
   a : SetTo n limit s₂ small (λ v h. same₂ NV v refl refl refl refl ∙ b .rows v h .nv) (λ v h. same₂ WANT v refl refl refl refl ∙ b .rows v h .want)
       (λ v h. same₂ ELEN v refl refl refl refl ∙ b .rows v h .elen) (λ v h. same₂ W v refl refl refl refl ∙ b .rows v h .w) n (opened n limit s)

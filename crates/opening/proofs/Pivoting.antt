@@ -33,7 +33,7 @@ use Rattle.cells.specs.Layout.{PE, LEN, WANT, ELEN, DEGREE, W, NEXT, LAST, HEAD
 use Rattle.cells.specs.Links.{parent}
 use Rattle.cells.specs.View.{Room, at, rd, up}
 use Rattle.chain.proofs.Frame.{chained-same, chained-up}
-use Rattle.chain.proofs.Leave.{collected-left, pivot-left, taken-length, taken-other, taken-parent}
+use Rattle.chain.proofs.Leave.{collected-left, pivot-left, taken-other, taken-parent, taken-room}
 use Rattle.chain.proofs.Unlink.{removed-other, removed-parent, removed-room}
 use Rattle.chain.specs.Chained.{Chained}
 use Rattle.chain.specs.Model.{removed, removedAll}
@@ -121,7 +121,7 @@ module _ (n : ℕ) (l s : List ℤ) (t : State) (inv : Inv n t) (wd : Weighed t)
   after f i a b e = taken-other (x .lists) n (x .made .start) (x .made .count) (x .mem) f i a b e
 
   room₅ : Room n s₅
-  room₅ = let z = c .space .room .room in record { room = omega (arith, taken-length (x .lists) n (x .made .start) (x .made .count) (x .mem)) }
+  room₅ = taken-room (x .lists) n (x .made .start) (x .made .count) (x .mem) (c .space .room)
 
   new-there : entries (at (x .lists)) (x .made .start) (x .made .count) ≡ new
   new-there =
