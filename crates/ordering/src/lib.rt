@@ -76,7 +76,7 @@ fn part_size(lists: usize) -> usize
 
 // ---- the ordering
 
-// The scratch is lent with anything in it: what no field may hold goes.
+// The scratch is lent with anything in it: once it is cleared, no field is negative.
 fn blank(s: &mut [i64], n: usize)
     requires { ⌜ 16 * n + 16 ≤ length (now s) ⌝ }
     ensures { λ _. ⌜ Room n (now (s .exit)) ⌝ }
@@ -84,8 +84,8 @@ fn blank(s: &mut [i64], n: usize)
     cells::clear(s);
 }
 
-// The pattern is taken, its graph eliminated, and the tree that this leaves put in order. Where the lists are not written yet they hold anything: rows alone,
-// once they are swept.
+// The pattern is taken, its graph eliminated, and the tree that this leaves put in order. The lists too are lent with anything in them: once they are swept,
+// every cell holds a row.
 fn order_pattern(
     pointers: &[i32],
     rows: &[i32],
@@ -108,7 +108,7 @@ fn order_pattern(
     e.statistics
 }
 
-// The same of a problem that was given the answer `a`, an accepted one; no columns have an ordering that is there already.
+// The same of a problem that was given the answer `a`, an accepted one; of no columns there is nothing to write.
 fn order_columns(
     n: i32,
     pointers: &[i32],
@@ -144,7 +144,7 @@ fn order_columns(
     )
 }
 
-// And both workspaces are cleared.
+// The same, and both workspaces are cleared.
 fn order_accepted(
     n: i32,
     pointers: &[i32],
