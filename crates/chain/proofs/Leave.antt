@@ -30,7 +30,7 @@ use Rattle.cells.proofs.Rows.{clipped-part}
 use Rattle.chain.specs.Model.{removed, removedAll}
 use Rattle.chain.specs.Chained.{Chained}
 use Rattle.chain.proofs.Frame.{chained-lists, only-degree}
-use Rattle.chain.proofs.Unlink.{removed-rep, removed-other, removed-degree, removed-parent, removed-length, removed-room}
+use Rattle.chain.proofs.Unlink.{removed-rep, removed-other, removed-degree, removed-parent, removed-room}
 
 pub size-delist : (g : Graph) (qs : List (List ℕ)) (v : ℕ) → length (delist g qs v) ≡ length qs
 unfolding delisted
@@ -157,9 +157,9 @@ module _ (n : ℕ) where
   fold-parent j [] s = refl
   fold-parent j (v ∷ vs) s = fold-parent j vs (removed n s v) ∙ removed-parent n s v j
 
-  fold-length : (vs : List ℕ) (s : List ℤ) → length (foldl (λ m v. removed n m v) s vs) ≡ length s
-  fold-length [] s = refl
-  fold-length (v ∷ vs) s = fold-length vs (removed n s v) ∙ removed-length n s v
+  fold-room : (vs : List ℕ) (s : List ℤ) → Room n s → Room n (foldl (λ m v. removed n m v) s vs)
+  fold-room [] s h = h
+  fold-room (v ∷ vs) s h = fold-room vs (removed n s v) (removed-room n s v h)
 
 module _ (l : List ℤ) (n p k : ℕ) (s : List ℤ) where
   -- every field but these three
@@ -169,5 +169,5 @@ module _ (l : List ℤ) (n p k : ℕ) (s : List ℤ) where
   pub taken-parent : (j : ℕ) → parent n (removedAll l n p k s) j ≡ parent n s j
   taken-parent j = rw (removed-fold l n p k s) (fold-parent n j (entries (at l) p (clipped (length l) p k)) s)
 
-  pub taken-length : length (removedAll l n p k s) ≡ length s
-  taken-length = rw (removed-fold l n p k s) (fold-length n (entries (at l) p (clipped (length l) p k)) s)
+  pub taken-room : Room n s → Room n (removedAll l n p k s)
+  taken-room h = rw (removed-fold l n p k s) (fold-room n (entries (at l) p (clipped (length l) p k)) s h)

@@ -29,7 +29,7 @@ use Rattle.chain.specs.Model.{pushed, emptied, enlistedOne, enlistedAll}
 use Rattle.chain.specs.Chained.{Chained}
 use Rattle.chain.proofs.Frame.{chained-lists}
 use Rattle.chain.proofs.Fronts.{size-push, push-fresh, front-rep}
-use Rattle.chain.proofs.Push.{pushed-other, pushed-parent, pushed-length, pushed-room, pushed-degree, pushed-degree-other}
+use Rattle.chain.proofs.Push.{pushed-other, pushed-parent, pushed-room, pushed-degree, pushed-degree-other}
 
 -- ---- no list has a front
 
@@ -90,8 +90,8 @@ module _ (n limit : ℕ) where
     pub enlisted-parent : (j : ℕ) → parent n (enlistedAll n limit s) j ≡ parent n s j
     enlisted-parent j = all-keeps (λ m. parent n m j ≡ parent n s j) (λ m d q. simp mem q) (λ m i l q. pushed-parent n m (rd n LEN m i) i j ∙ q) s refl
 
-    pub enlisted-length : length (enlistedAll n limit s) ≡ length s
-    enlisted-length = all-keeps (λ m. length m ≡ length s) (λ m d q. simp mem q) (λ m i l q. pushed-length n m (rd n LEN m i) i ∙ q) s refl
+    pub enlisted-room : Room n s → Room n (enlistedAll n limit s)
+    enlisted-room h = all-keeps (Room n) (λ m d q. room-up n HEAD m d n q) (λ m i l q. pushed-room n m (rd n LEN m i) i q) s h
 
 -- rows whose degree is their length before, have it after
 record Measured (n : ℕ) (s m : List ℤ) : Type 0 where

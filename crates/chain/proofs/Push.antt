@@ -9,7 +9,6 @@ use mathlib.Core.List.{List, [], _∷_}
 use borrow.Author.Tests.{lt-ltb}
 use lib.Dec.{eqb}
 use lib.IntN.{ℤ}
-use lib.ListN.{length}
 use Rattle.plain.specs.Lists.{member}
 use Rattle.plain.specs.Members.{Distinct}
 use Rattle.plain.specs.Turns.{upd}
@@ -18,8 +17,8 @@ use Rattle.plain.proofs.Members.{not-here, not-there}
 use Rattle.cells.specs.Layout.{DEGREE, NEXT, LAST, HEAD}
 use Rattle.cells.specs.View.{rd, Room}
 use Rattle.cells.specs.Links.{parent}
-use Rattle.cells.proofs.Slices.{same?}
 use Rattle.cells.proofs.Fields.{room-up}
+use Rattle.cells.proofs.Slices.{same?}
 use Rattle.cells.proofs.Laws.{mem, room-yes}
 use Rattle.chain.specs.Model.{linkedBefore, pushed}
 use Rattle.chain.specs.Chained.{links, Node, Seg, Chained}
@@ -37,10 +36,6 @@ module _ (n : ℕ) (s : List ℤ) (d i : ℕ) where
   pub pushed-parent : (j : ℕ) → parent n (pushed n s d i) j ≡ parent n s j
   unfolding pushed linkedBefore
   pushed-parent j = simp mem
-
-  pub pushed-length : length (pushed n s d i) ≡ length s
-  unfolding pushed linkedBefore
-  pushed-length = simp mem
 
   pub pushed-room : Room n s → Room n (pushed n s d i)
   unfolding pushed linkedBefore

@@ -9,7 +9,6 @@ use mathlib.Core.List.{List, [], _∷_}
 use borrow.Author.Tests.{lt-ltb, eq-eqb, ne-eqb}
 use lib.Dec.{eqb}
 use lib.IntN.{ℤ}
-use lib.ListN.{length}
 use Rattle.plain.specs.Lists.{member, delete}
 use Rattle.plain.specs.Members.{In, Distinct}
 use Rattle.plain.proofs.Members.{no-member, member-either, not-here, not-there, delete-nil, delete-here, delete-there, delete-fresh}
@@ -17,8 +16,8 @@ use Rattle.plain.proofs.Repeats.{distinct-delete}
 use Rattle.cells.specs.Layout.{DEGREE, NEXT, LAST, HEAD}
 use Rattle.cells.specs.View.{rd, up, Room}
 use Rattle.cells.specs.Links.{parent}
-use Rattle.cells.proofs.Slices.{split, same?}
 use Rattle.cells.proofs.Fields.{room-up}
+use Rattle.cells.proofs.Slices.{split, same?}
 use Rattle.cells.proofs.Laws.{mem, rd-up-field, room-yes}
 use Rattle.chain.specs.Model.{removed}
 use Rattle.chain.specs.Chained.{Links, links, Seg, Chained}
@@ -147,11 +146,10 @@ module _ (n : ℕ) (s : List ℤ) (i : ℕ) where
   pub removed-parent : (j : ℕ) → parent n (removed n s i) j ≡ parent n s j
   removed-parent j = cases (λ t. parent n t j ≡ parent n s j) (λ a. simp mem) (λ a. simp mem)
 
-  pub removed-length : length (removed n s i) ≡ length s
-  removed-length = cases (λ t. length t ≡ length s) (λ a. simp mem) (λ a. simp mem)
-
   pub removed-room : Room n s → Room n (removed n s i)
-  removed-room h = cases (Room n) (λ a. room-up n NEXT _ _ _ (room-up n LAST s _ _ h)) (λ a. room-up n HEAD _ _ _ (room-up n LAST s _ _ h))
+  removed-room h =
+      let first = room-up n LAST s (rd n NEXT s i) (rd n LAST s i) h in
+      cases (Room n) (λ a. room-up n NEXT _ _ _ first) (λ a. room-up n HEAD _ _ _ first)
 
   module _ (room : Room n s) where
     out : Out n (links n s) (links n (removed n s i)) i

@@ -2,7 +2,6 @@
 pub mod Steps
 pub mod Kept
 pub mod Rows
-pub mod Rooms
 pub mod Opening
 pub mod Taking
 pub mod Shown

@@ -28,7 +28,7 @@ use Rattle.cells.specs.Layout.{PE, LEN, WANT, ELEN, DEGREE, W, NEXT, LAST, HEAD
 use Rattle.cells.specs.Links as links
 use Rattle.cells.specs.View.{Room, at, rd}
 use Rattle.chain.proofs.Frame.{chained-same}
-use Rattle.chain.proofs.Opening.{enlisted-degrees, enlisted-other, enlisted-parent, opened-start}
+use Rattle.chain.proofs.Opening.{enlisted-degrees, enlisted-other, enlisted-parent, enlisted-room, opened-start}
 use Rattle.chain.specs.Chained.{Chained}
 use Rattle.chain.specs.Model.{enlistedAll}
 use Rattle.packed.proofs.Beginning.{space-packed}
@@ -40,7 +40,6 @@ use Rattle.drawn.specs.Flags.{Flagged}
 use Rattle.drawn.specs.Log.{Logged}
 use Rattle.opening.specs.Start.{Setting, begunAll, opened, setAll}
 use Rattle.opening.proofs.Kept.{space-kept}
-use Rattle.opening.proofs.Rooms.{enlisted-room}
 use Rattle.opening.proofs.Rows.{Begun, Placed, SetTo, begun-all, set-all, sort}
 
 -- what a kind tells of the degree

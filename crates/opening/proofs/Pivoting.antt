@@ -33,7 +33,7 @@ use Rattle.cells.specs.Layout.{PE, LEN, WANT, ELEN, DEGREE, W, NEXT, LAST, HEAD
 use Rattle.cells.specs.Links.{parent}
 use Rattle.cells.specs.View.{Room, at, rd, up}
 use Rattle.chain.proofs.Frame.{chained-same, chained-up}
-use Rattle.chain.proofs.Leave.{collected-left, pivot-left, taken-other, taken-parent}
+use Rattle.chain.proofs.Leave.{collected-left, pivot-left, taken-other, taken-parent, taken-room}
 use Rattle.chain.proofs.Unlink.{removed-other, removed-parent, removed-room}
 use Rattle.chain.specs.Chained.{Chained}
 use Rattle.chain.specs.Model.{removed, removedAll}
@@ -46,7 +46,6 @@ use Rattle.drawn.specs.Flags.{Flagged}
 use Rattle.drawn.specs.Log.{Logged}
 use Rattle.opening.specs.Begin as begin
 use Rattle.opening.proofs.Gathering.{Collects, Last, Same, collects, lasts, same-still}
-use Rattle.opening.proofs.Rooms.{taken-room}
 use Rattle.opening.proofs.Shown.{degree-passed, elements-passed, kind-passed, parent-now, variables-passed, weight-passed}
 
 module _ (n : ℕ) (l s : List ℤ) (t : State) (inv : Inv n t) (wd : Weighed t) (p d : ℕ) (which : pivot t ≡ found p d) (made base lim : ℕ) (small : n < 2 ^ 63)
@@ -122,7 +121,7 @@ module _ (n : ℕ) (l s : List ℤ) (t : State) (inv : Inv n t) (wd : Weighed t)
   after f i a b e = taken-other (x .lists) n (x .made .start) (x .made .count) (x .mem) f i a b e
 
   room₅ : Room n s₅
-  room₅ = taken-room n (x .lists) (x .made .start) (x .made .count) (x .mem) (c .space .room)
+  room₅ = taken-room (x .lists) n (x .made .start) (x .made .count) (x .mem) (c .space .room)
 
   new-there : entries (at (x .lists)) (x .made .start) (x .made .count) ≡ new
   new-there =

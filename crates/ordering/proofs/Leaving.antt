@@ -21,6 +21,7 @@ use Rattle.numbers.specs.declared.Outcome.{Outcome}
 use Rattle.numbers.specs.declared.Statistics.{Statistics}
 use Rattle.promise.proofs.Left as Promised
 use Rattle.ordering.specs.Left.{left}
+use Rattle.ordering.specs.Meets.{Meets}
 
 pub refused-left : (z : Lent) (a : Answer) (r : Outcome) → outcomeMeant r [] [] ≡ refused (answerMeant a) → accepts (answerMeant a) ≡ false → answerMeant a ≡ answerOf (problemOf z)
     → left r (z .permutation) (z .inverse) (z .lists) (z .scratch) ≡ after z
@@ -30,13 +31,10 @@ refused-left z a r h denied is =
     let statistics = ap (λ (o : Outcomes.Outcome). o .statistics) h in
     rw (answer, statistics) (sym (Promised.left-refused z (ap accepts (sym is) ∙ denied)))
 
-pub accepted-left : (z : Lent) (a : Answer) (x : Statistics) (p i : List ℤ) → Accepted (problemOf z) → answerMeant a ≡ answerOf (problemOf z)
-    → statisticsMeant x ≡ seven (plain (problemOf z .pattern) (ruleFor (problemOf z)) (problemOf z .aggressive) .six) (collectionCount (problemOf z))
-    → p ≡ map pos (plain (problemOf z .pattern) (ruleFor (problemOf z)) (problemOf z .aggressive) .permutation)
-    → i ≡ map pos (plain (problemOf z .pattern) (ruleFor (problemOf z)) (problemOf z .aggressive) .inverse)
+pub accepted-left : (z : Lent) (a : Answer) (x : Statistics) (p i : List ℤ) → Accepted (problemOf z) → answerMeant a ≡ answerOf (problemOf z) → Meets z p i x
     → left (record { answer = a; statistics = x }) p i (replicate (length (z .lists)) (pos 0)) (replicate (length (z .scratch)) (pos 0)) ≡ after z
 unfolding filled withCount zeroed
-accepted-left z a x p i ok is counts perm inverse = rw (is, counts, perm, inverse) (sym (Promised.left z ok))
+accepted-left z a x p i ok is h = rw (is, h .counts, h .permutation, h .inverse) (sym (Promised.left z ok))
 
 -- ---- jumbled or not, by the answer's number
 

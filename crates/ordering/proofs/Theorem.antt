@@ -1,15 +1,14 @@
 -- Of an accepted problem the course of an ordering leaves what the definition says: both outputs, and the statistics.
 -- Assumes nothing.
-use Prim.Native.Nat.{ℕ, _+_, _*_, _≤_, _^_, min}
+use Prim.Native.Nat.{ℕ, _+_, _*_, _<_, _≤_, _^_, min}
 use native.Mathlib.Omega.{arith}
-use mathlib.Core.Path.{_≡_, sym, ap, _∙_}
+use mathlib.Core.Path.{_≡_, ap, _∙_}
 use mathlib.Core.Bool.{Bool, cond}
-use mathlib.Core.List.{List, map}
+use mathlib.Core.List.{List, [], map}
 use lib.Dec.{eqb}
 use lib.IntN.{ℤ, pos}
-use lib.ListN.{length}
-use borrow.Author.Tests.{eqb-true, eqb-false}
-use Rattle.plain.proofs.Logic.{either}
+use lib.ListN.{length, getD}
+use Rattle.plain.specs.Members.{In}
 use Rattle.definition.specs.Answers.{Problem, ruleFor}
 use Rattle.definition.specs.Ordering.{graphOf, limitOf, keyFor, finalOf, plain, plainFrom}
 use Rattle.definition.specs.Outcome.{collectionCount, seven}
@@ -18,13 +17,15 @@ use Rattle.definition.specs.Pattern.{Pattern, columnCount, nnz, columns}
 use Rattle.definition.specs.State.{denseRows}
 use Rattle.definition.specs.Statistics.{Six, noSix, sixOf}
 use Rattle.facts.proofs.Accepted.{permutation-size, inverse-size, scratch-room, neighbourly-graph, length-graph, graph-room}
-use Rattle.facts.proofs.Outcome.{final-rows}
+use Rattle.facts.proofs.Outcome.{final-rows, final-permutation, final-inverse}
 use Rattle.facts.specs.Accepted.{Accepted}
 use Rattle.numbers.specs.Meaning.{statisticsMeant}
 use Rattle.numbers.specs.declared.Settings.{Settings}
 use Rattle.numbers.specs.declared.Statistics.{Statistics}
 use Rattle.checks.specs.Given.{patternGiven, problemGiven}
-use Rattle.pattern.proofs.Taking.{taken-rep, taken-long, taken-wide}
+use Rattle.cells.specs.View.{Room}
+use Rattle.pattern.proofs.Swept.{packed-swept}
+use Rattle.pattern.proofs.Taking.{taken-rep, taken-long, taken-room}
 use Rattle.pattern.specs.Model.{tidied, built, builtFree}
 use Rattle.standing.proofs.Finished.{eliminated}
 use Rattle.standing.specs.Result.{Result}
@@ -51,8 +52,18 @@ module _ (p : Problem) (ok : Accepted p) (none : columnCount (p .pattern) ≡ 0)
       no-collections (graphOf (p .pattern)) (neighbourly-graph p ok) (keyFor (p .pattern)) (p .aggressive) (limitOf (p .pattern) (ruleFor p)) (p .listsSize)
       (rw size (omega (arith, graph-room p ok)))
 
-  no-seven : seven (plain (p .pattern) (ruleFor p) (p .aggressive) .six) (collectionCount p) ≡ seven noSix 0
+  pub no-seven : seven (plain (p .pattern) (ruleFor p) (p .aggressive) .six) (collectionCount p) ≡ seven noSix 0
   no-seven = ap (λ (x : Six). seven x (collectionCount p)) no-six ∙ ap (seven noSix) no-count
+
+  pub no-permutation : length (plain (p .pattern) (ruleFor p) (p .aggressive) .permutation) ≡ 0
+  unfolding plain plainFrom finalOf
+  no-permutation =
+      final-permutation (limitOf (p .pattern) (ruleFor p)) (graphOf (p .pattern)) (neighbourly-graph p ok) (keyFor (p .pattern)) (p .aggressive) .size ∙ length-graph p ok ∙ none
+
+  pub no-inverse : length (plain (p .pattern) (ruleFor p) (p .aggressive) .inverse) ≡ 0
+  unfolding plain plainFrom finalOf
+  no-inverse =
+      final-inverse (limitOf (p .pattern) (ruleFor p)) (graphOf (p .pattern)) (neighbourly-graph p ok) (keyFor (p .pattern)) (p .aggressive) .size ∙ length-graph p ok ∙ none
 
 -- ---- the course
 
@@ -63,9 +74,10 @@ module _ (n : ℤ) (a b : List ℤ) (x : Settings) (p i l s : List ℤ) where
   abbrev pattern : Pattern
   pattern = patternGiven n a b
 
-  -- in a part of the lists, and with the pattern taken as it is, jumbled or not
-  module _ (ok : Accepted problem) (part : List ℤ) (size : length part ≡ min (length l) (2 ^ 61)) (jumbled : Bool) (is : jumbled ≡ Patterns.jumbled (columns pattern))
-      (p′ i′ : List ℤ) (r : Statistics) (c : Course (columnCount pattern) a b x jumbled part s p i p′ i′ r) where
+  -- of some columns, in a part of the lists and a scratch t that is as long as the lent one, and with the pattern taken as it is, jumbled or not
+  module _ (ok : Accepted problem) (some : 0 < columnCount pattern) (part : List ℤ) (size : length part ≡ min (length l) (2 ^ 61))
+      (t : List ℤ) (wide : length t ≡ length s) (calm : Room (columnCount pattern) t) (jumbled : Bool) (is : jumbled ≡ Patterns.jumbled (columns pattern))
+      (p′ i′ : List ℤ) (r : Statistics) (c : Course (columnCount pattern) a b x jumbled part t p i p′ i′ r) where
     abbrev short : Problem
     short = cut (min (length l) (2 ^ 61)) problem
 
@@ -73,22 +85,27 @@ module _ (n : ℤ) (a b : List ℤ) (x : Settings) (p i l s : List ℤ) where
     short-ok = cut-accepted problem ok
 
     abbrev tidy : List ℤ
-    tidy = tidied (columnCount pattern) a b jumbled s
+    tidy = tidied (columnCount pattern) a b jumbled t
 
     room : 2 * nnz pattern + columnCount pattern ≤ length part
     room = omega (arith, size, cut-room problem ok)
 
-    fits : nnz pattern + 16 * columnCount pattern + 16 ≤ length s
-    fits = scratch-room problem ok
+    fits : nnz pattern + 16 * columnCount pattern + 16 ≤ length t
+    fits = omega (arith, wide, scratch-room problem ok)
 
-    result : Result short (built (columnCount pattern) part tidy .lists) (c .l′) (c .s′) (c .e)
+    -- every entry of the graph is a row, so a sweep leaves it
+    inside : (v w : ℕ) → In w (getD (graphOf pattern) v []) → w < columnCount pattern
+    inside v w m = rw (← length-graph problem ok) (neighbourly-graph problem ok .inside v w m)
+
+    result : Result short (c .l₁) (c .l′) (c .s′) (c .e)
     unfolding ruleFor
     result =
-        let long = taken-long short short-ok s fits part jumbled is room in
-        let wide = taken-wide short short-ok s fits part jumbled is room in
-        eliminated short short-ok (built (columnCount pattern) part tidy .lists) (built (columnCount pattern) part tidy .mem) (builtFree (columnCount pattern) part tidy)
-        (record { room = omega (arith, wide, fits) })
-        (taken-rep short short-ok s fits part jumbled is room)
+        let long = c .swept .long ∙ taken-long short short-ok t calm fits part jumbled is room in
+        let packed = taken-rep short short-ok t calm fits part jumbled is room in
+        eliminated short short-ok (c .l₁) (built (columnCount pattern) part tidy .mem) (builtFree (columnCount pattern) part tidy)
+        (taken-room short short-ok t calm fits part jumbled is room)
+        (packed-swept (columnCount pattern) (graphOf pattern) (built (columnCount pattern) part tidy .lists) (built (columnCount pattern) part tidy .mem)
+        (builtFree (columnCount pattern) part tidy) inside packed (c .l₁) (c .swept))
         (long ∙ size)
         (omega (arith, long, size))
         (c .l′) (c .s′) (c .e) (c .whole)
@@ -102,9 +119,4 @@ module _ (n : ℤ) (a b : List ℤ) (x : Settings) (p i l s : List ℤ) where
     pub course-statistics : statisticsMeant r ≡ seven (plain pattern (ruleFor problem) (x .aggressive) .six) (collectionCount problem)
     unfolding ruleFor
     course-statistics =
-        either _ (eqb (columnCount pattern) 0)
-        (λ e. c .counts ∙ ap (λ (t : Bool). cond t (seven noSix 0) (statisticsMeant (c .e .statistics))) e ∙ sym (no-seven problem ok (eqb-true (columnCount pattern) 0 e)))
-        (λ e.
-        let some = eqb-false (columnCount pattern) 0 e in
-        c .counts ∙ ap (λ (t : Bool). cond t (seven noSix 0) (statisticsMeant (c .e .statistics))) e ∙ result .statistics (omega (arith, some))
-        ∙ ap (seven (plain pattern (ruleFor problem) (x .aggressive) .six)) (cut-count problem ok))
+        ap statisticsMeant (c .counts) ∙ result .statistics some ∙ ap (seven (plain pattern (ruleFor problem) (x .aggressive) .six)) (cut-count problem ok)

@@ -1,19 +1,19 @@
 // The ordering of a pattern: its promise is that of the definition, for all inputs.
 ghost use mathlib.Core.Path.{_≡_};
-ghost use mathlib.Core.Bool.{true, false, cond};
-ghost use Prim.Native.Nat.{_≤_, _^_, min};
+ghost use mathlib.Core.Bool.{true, false};
+ghost use Prim.Native.Nat.{_+_, _*_, _<_, _≤_, _^_, min};
 ghost use lib.Dec.{eqb};
+ghost use lib.ListN.{length};
 ghost use Rattle.plain.specs.Lists.{isNone};
 ghost use Rattle.definition.specs.Limits.{baseLimits, listsRoom, scratchRoom, roomWithin};
 ghost use Rattle.definition.specs.Threshold.{ruleOf, threshold};
 ghost use Rattle.definition.specs.Answers.{accepts, answerOf, numberOf, orFullRows};
-ghost use Rattle.definition.specs.Statistics.{noSix};
-ghost use Rattle.definition.specs.Outcome.{seven};
 ghost use Rattle.definition.specs.Promise.{problemOf, after};
-ghost use Rattle.numbers.specs.Meaning.{answerMeant, statisticsMeant};
+ghost use Rattle.numbers.specs.Meaning.{answerMeant};
 ghost use Rattle.cells.specs.View.{Room};
 ghost use Rattle.ordering.specs.Left.{lent, left};
 ghost use Rattle.ordering.specs.Course.{Course};
+ghost use Rattle.ordering.specs.Meets.{Meets};
 use numbers::Answer;
 use numbers::Outcome;
 use numbers::Settings;
@@ -60,16 +60,6 @@ fn limit_of(settings: Settings, n: usize) -> usize
     numbers::threshold(rule, n)
 }
 
-// The statistics of n columns: no columns have none.
-fn statistics_of(n: usize, x: Statistics) -> Statistics
-    ensures { λ r. ⌜ statisticsMeant r ≡ cond (eqb n 0) (seven noSix 0) (statisticsMeant x) ⌝ }
-{
-    if n == 0 {
-        return numbers::no_statistics();
-    }
-    x
-}
-
 // So many cells of lists that no pattern fills them, with no collection: what is behind them is cleared, and not used.
 const MOST_LISTS: usize = 0x2000_0000_0000_0000;
 
@@ -86,7 +76,16 @@ fn part_size(lists: usize) -> usize
 
 // ---- the ordering
 
-// The pattern is taken, its graph eliminated, and the tree that this leaves put in order.
+// The scratch is lent with anything in it: once it is cleared, no field is negative.
+fn blank(s: &mut [i64], n: usize)
+    requires { ⌜ 16 * n + 16 ≤ length (now s) ⌝ }
+    ensures { λ _. ⌜ Room n (now (s .exit)) ⌝ }
+{
+    cells::clear(s);
+}
+
+// The pattern is taken, its graph eliminated, and the tree that this leaves put in order. The lists too are lent with anything in them: once they are swept,
+// every cell holds a row.
 fn order_pattern(
     pointers: &[i32],
     rows: &[i32],
@@ -98,17 +97,54 @@ fn order_pattern(
     n: usize,
     jumbled: bool,
 ) -> Statistics
-    requires { ⌜ Room n (now scratch) × (n ≤ baseLimits .mostColumns) × (isNone (ruleOf (settings .multiplier)) ≡ false) ⌝ }
+    requires { ⌜ Room n (now scratch) × (0 < n) × (n ≤ baseLimits .mostColumns) × (isNone (ruleOf (settings .multiplier)) ≡ false) ⌝ }
     ensures { λ r. ⌜ Course n (now (pointers .entry)) (now (rows .entry)) settings jumbled (now (lists .entry)) (now (scratch .entry)) (now (permutation .entry)) (now (inverse .entry)) (now (permutation .exit)) (now (inverse .exit)) r ⌝ }
 {
     let free = pattern::take_pattern(pointers, rows, lists, scratch, n, jumbled);
+    cells::sweep(lists, n);
     let limit = limit_of(settings, n);
     let e = elimination::eliminate(lists, scratch, n, limit, free, settings.aggressive);
     tree::order_tree(scratch, n, e.merges, permutation, inverse);
-    statistics_of(n, e.statistics)
+    e.statistics
 }
 
-// The same of a problem that was given the answer `a`, an accepted one; and both workspaces are cleared.
+// The same of a problem that was given the answer `a`, an accepted one; of no columns there is nothing to write.
+fn order_columns(
+    n: i32,
+    pointers: &[i32],
+    rows: &[i32],
+    settings: Settings,
+    permutation: &mut [i32],
+    inverse: &mut [i32],
+    lists: &mut [i64],
+    scratch: &mut [i64],
+    a: Answer,
+) -> Statistics
+    requires answered { ⌜ answerMeant a ≡ answerOf (problemOf (lent n (now pointers) (now rows) settings (now permutation) (now inverse) (now lists) (now scratch))) ⌝ }
+    requires accepted { ⌜ accepts (answerMeant a) ≡ true ⌝ }
+    ensures { λ r. ⌜ Meets (lent n (now (pointers .entry)) (now (rows .entry)) settings (now (permutation .entry)) (now (inverse .entry)) (now (lists .entry)) (now (scratch .entry))) (now (permutation .exit)) (now (inverse .exit)) r ⌝ }
+{
+    let columns = n as usize;
+    if columns == 0 {
+        return numbers::no_statistics();
+    }
+    blank(scratch, columns);
+    let size = part_size(lists.len());
+    let jumbled = is_jumbled(a);
+    order_pattern(
+        pointers,
+        rows,
+        settings,
+        permutation,
+        inverse,
+        &mut lists[0..size],
+        scratch,
+        columns,
+        jumbled,
+    )
+}
+
+// The same, and both workspaces are cleared.
 fn order_accepted(
     n: i32,
     pointers: &[i32],
@@ -124,18 +160,16 @@ fn order_accepted(
     requires accepted { ⌜ accepts (answerMeant a) ≡ true ⌝ }
     ensures { λ r. ⌜ left r (now (permutation .exit)) (now (inverse .exit)) (now (lists .exit)) (now (scratch .exit)) ≡ after (lent n (now (pointers .entry)) (now (rows .entry)) settings (now (permutation .entry)) (now (inverse .entry)) (now (lists .entry)) (now (scratch .entry))) ⌝ }
 {
-    let size = part_size(lists.len());
-    let jumbled = is_jumbled(a);
-    let x = order_pattern(
+    let x = order_columns(
+        n,
         pointers,
         rows,
         settings,
         permutation,
         inverse,
-        &mut lists[0..size],
+        lists,
         scratch,
-        n as usize,
-        jumbled,
+        a,
     );
     cells::clear(lists);
     cells::clear(scratch);

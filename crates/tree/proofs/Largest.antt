@@ -47,7 +47,7 @@ module _ (n : ℕ) (s : List ℤ) where
 
     child : (j : ℕ) → (j < k) ⊎ (j ≡ k) → rd n FIRST m′ j ≡ n
     child j (inl l) = let ne : k ≢ j = λ e. omega arith in rd-up-field n LARGEST FIRST t k n j refl ∙ rd-up-cell n FIRST FIRST m k n j ne ∙ h .no-child j l
-    child j (inr e) = rw e (rd-up-field n LARGEST FIRST t k n k refl ∙ rd-up-column n m k n (h .room) (omega arith))
+    child j (inr e) = rw e (rd-up-field n LARGEST FIRST t k n k refl ∙ rd-up-column n m k n (h .room .room) (omega arith))
 
     largest : (j : ℕ) → (j < k) ⊎ (j ≡ k) → rd n LARGEST m′ j ≡ n
     largest j (inl l) = let ne : k ≢ j = λ e. omega arith in rd-up-cell n LARGEST LARGEST t k n j ne ∙ rd-up-field n FIRST LARGEST m k n j refl ∙ h .no-largest j l
@@ -70,7 +70,7 @@ module _ (n : ℕ) (s : List ℤ) where
     room = room-up n FIRST s n n room;
     kept = λ f i x y. rd-up-field n FIRST f s n n i x;
     links = λ i. parent-up-field n FIRST s n n i refl;
-    no-root = rd-up-column n s n n room (omega arith);
+    no-root = rd-up-column n s n n (room .room) (omega arith);
     no-child = λ j l. absurd (omega arith);
     no-largest = λ j l. absurd (omega arith);
   })

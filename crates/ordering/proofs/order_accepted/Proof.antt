@@ -6,35 +6,15 @@ use lib.IntN.{pos}
 use lib.ListN.{replicate}
 use mir.Syntax.{w32}
 use borrow.Author.Needs.{needs}
-use Rattle.checks.proofs.Orders.{read, to-number}
-use Rattle.ordering.proofs.Calls.{count-sign, enough, part-length, all-left}
+use Rattle.checks.proofs.Orders.{read}
+use Rattle.ordering.proofs.Calls.{all-left}
 use Rattle.ordering.proofs.order_accepted.Statement.{statement}
 use Rattle.ordering.proofs.order_accepted.Tie as tie
 
-part-size-requires : tie.Need-part-size-requires
-part-size-requires c κs = search needs
-
-is-jumbled-requires : tie.Need-is-jumbled-requires
-is-jumbled-requires c κs = search needs
-
-sub-order-pattern : tie.Need-sub-order-pattern
-sub-order-pattern c = search needs
-
-part-order-pattern-start : tie.Need-part-order-pattern-start
-part-order-pattern-start c = search needs
-
-part-order-pattern-end : tie.Need-part-order-pattern-end
-part-order-pattern-end c = search needs
-
-cast-order-pattern : tie.Need-cast-order-pattern
-cast-order-pattern c =
-    let s = c .before .before .before .before .before .before in
-    to-number w32 (s .args .n) tt (s .fits .n .sfits) (count-sign _ _ _ _ _ _ _ _ (s .args .a) (s .pre .0) (s .pre .1))
-
-order-pattern-requires : tie.Need-order-pattern-requires
-order-pattern-requires c κs =
-    let s = c .before .before .before .before .before .before in
-    rw (read w32 (s .args .n) (s .fits .n .sfits)) (enough _ _ _ _ _ _ _ _ (s .args .a) (s .pre .0) (s .pre .1))
+order-columns-requires : tie.Need-order-columns-requires
+order-columns-requires c κs =
+    let s = c .before .before .before .before in
+    rw (read w32 (s .args .n) (s .fits .n .sfits)) (s .pre .0, s .pre .1)
 
 clear-requires : tie.Need-clear-requires
 clear-requires c κs = search needs
@@ -56,32 +36,14 @@ same-length-4 c = search needs
 
 returns : tie.Need-returns
 returns c =
-    let s = c .before .before .before .before .before .before .before .before .before .before .before .before .before .before .before .before .before in
-    let size = c .before .before .before .before .before .before .before .before .before .before .before .before .before .before .before .before .part-size in
+    let s = c .before .before .before .before .before .before .before .before .before .before .before .before .before .before .before in
     let clear = c .before .before .before .before .clear in
     let clear2 = c .before .clear2 in
-    all-left _ _ _ _ _ _ _ _ (s .args .a) (s .pre .0) (s .pre .1) _ _ _ _ _ _ _
-    (part-length (s .args .lists .now) (size .result) (size .ensures))
-    (c .before .before .before .before .before .before .before .before .before .before .before .before .before .before .before .is-jumbled .ensures)
-    (rw (read w32 (s .args .n) (s .fits .n .sfits)) at (c .before .before .before .before .before .before .before .before .before .before .order-pattern .ensures))
+    all-left _ _ _ _ _ _ _ _ (s .args .a) (s .pre .0) (s .pre .1) _ _ _ _ _
+    (rw (read w32 (s .args .n) (s .fits .n .sfits)) at (c .before .before .before .before .before .before .before .before .before .before .order-columns .ensures))
     (clear .ensures ∙ ap (λ (k : ℕ). replicate k (pos 0)) (sym (clear .kept .0) ∙ same-length-3 c))
     (clear2 .ensures ∙ ap (λ (k : ℕ). replicate k (pos 0)) (sym (clear2 .kept .0) ∙ same-length-4 c))
 
 pub order-accepted-spec : {M : Type 1} → statement M
 order-accepted-spec =
-    tie.close
-    (tie.spec
-    part-size-requires
-    is-jumbled-requires
-    sub-order-pattern
-    part-order-pattern-start
-    part-order-pattern-end
-    cast-order-pattern
-    order-pattern-requires
-    clear-requires
-    clear-requires-2
-    same-length
-    same-length-2
-    same-length-3
-    same-length-4
-    returns)
+    tie.close (tie.spec order-columns-requires clear-requires clear-requires-2 same-length same-length-2 same-length-3 same-length-4 returns)

@@ -9,6 +9,9 @@ use Rattle.ordering.proofs.order_pattern.Tie as tie
 take-pattern-requires : tie.Need-take-pattern-requires
 take-pattern-requires c κs = search needs
 
+sweep-requires : tie.Need-sweep-requires
+sweep-requires c κs = search needs
+
 limit-of-requires : tie.Need-limit-of-requires
 limit-of-requires c κs = search needs
 
@@ -18,9 +21,6 @@ eliminate-requires c κs = search needs
 order-tree-requires : tie.Need-order-tree-requires
 unfolding baseLimits
 order-tree-requires c κs = search needs
-
-statistics-of-requires : tie.Need-statistics-of-requires
-statistics-of-requires c κs = search needs
 
 same-length : tie.Need-same-length
 same-length c = search needs
@@ -36,12 +36,12 @@ same-length-4 c = search needs
 
 returns : tie.Need-returns
 returns c =
-    let taken = c .before .before .before .before .before .before .before .before .before .before .before .before .before .before .before .before .take-pattern .ensures in
+    let taken = c .before .before .before .before .before .before .before .before .before .before .before .before .before .before .before .before .before .before .before .take-pattern .ensures in
     course _ _ _ _ _ _ _ _ _ _ _ _ _ _ _ _ _ _ _
-    (c .statistics-of .ensures)
     (c .before .before .before .before .order-tree .ensures)
     (c .before .before .before .before .before .before .before .before .before .before .eliminate .ensures .0)
     (c .before .before .before .before .before .before .before .before .before .before .before .before .before .limit-of .ensures)
+    (c .before .before .before .before .before .before .before .before .before .before .before .before .before .before .before .sweep .ensures)
     (taken .0)
     (taken .1)
 
@@ -50,10 +50,10 @@ order-pattern-spec =
     tie.close
     (tie.spec
     take-pattern-requires
+    sweep-requires
     limit-of-requires
     eliminate-requires
     order-tree-requires
-    statistics-of-requires
     same-length
     same-length-2
     same-length-3
