@@ -123,11 +123,12 @@ module _ {N n nd size : ℕ} {l s : List ℤ} {t : Turn} {x : Outcomes.Statistic
   -- the new element lies inside the list space
   pub inside₁ : 0 < begun .made .count → begun .made .start + begun .made .count ≤ length (begun .lists)
   inside₁ z =
-      omega
-      (arith,
-      place₁,
-      extent₁,
-      inside-space (begun .lists) (places n (begun .mem)) (begun .made .free) (upd (listOf (passed g p)) p new) (drawn₁ .space .lists) p (rw extent₁ z))
+      omega (
+        arith,
+        place₁,
+        extent₁,
+        inside-space (begun .lists) (places n (begun .mem)) (begun .made .free) (upd (listOf (passed g p)) p new) (drawn₁ .space .lists) p (rw extent₁ z),
+      )
 
   pub long₁ : length (begun .lists) ≡ size
   long₁ = begun-long n l s st (b .inv) (b .weighed) p d (b .which) (t .made) (t .base) (t .free) small narrower (h .drawn) turns fresh roomy rm (h .free) ∙ h .long

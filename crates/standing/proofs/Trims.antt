@@ -94,11 +94,12 @@ module _ {N n nd size : ℕ} {l s : List ℤ} {t : Turn} {x : Outcomes.Statistic
 
   pub inside₃ : 0 < begun b .made .count → begun b .made .start + begun b .made .count ≤ length (trims .lists)
   inside₃ z =
-      omega
-      (arith,
-      place₃,
-      extent₃,
-      inside-space (trims .lists) (places n (trims .mem)) (begun b .made .free) (upd (listOf g₂) p new) (trimmed₃ .drawn .space .lists) p (rw extent₃ z))
+      omega (
+        arith,
+        place₃,
+        extent₃,
+        inside-space (trims .lists) (places n (trims .mem)) (begun b .made .free) (upd (listOf g₂) p new) (trimmed₃ .drawn .space .lists) p (rw extent₃ z),
+      )
 
   pub list₃ : entries (at (trims .lists)) (begun b .made .start) (begun b .made .count) ≡ collected (st .graph) p
   list₃ =
