@@ -152,14 +152,6 @@ pub fn copy_row(l: &mut [i64], n: usize, p: usize, e: usize)
     poke(l, e, x);
 }
 
-// Cell `e` becomes what cell `p` is.
-pub fn copy_cell(l: &mut [i64], p: usize, e: usize)
-    ensures { λ _. ⌜ now (l .exit) ≡ wr (now (l .entry)) e (at (now (l .entry)) p) ⌝ }
-{
-    let x = peek(l, p);
-    poke(l, e, x);
-}
-
 // How many of the `k` cells from `p` on are there, of `size` in all: a loop over them asks once.
 pub fn clip(size: usize, p: usize, k: usize) -> usize
     ensures { λ r. ⌜ (r ≡ clipped size p k) × (r ≤ k) × (r ≤ size - p) ⌝ }

@@ -257,8 +257,5 @@ module _ (n : ℕ) (cols : List (List ℕ)) (l s : List ℤ) (stands : Columned 
   pub built-long : length (built n l s .lists) ≡ length l
   built-long = second .out .long
 
-  pub built-wide : length (built n l s .mem) ≡ length s
-  built-wide = second .out .wide
-
   pub built-room : Room n (built n l s .mem)
   built-room = second .room

@@ -26,7 +26,7 @@ use Rattle.pattern.specs.Model.{copied, transposed, tidied, built, built
 use Rattle.pattern.proofs.Source.{pointer-at, source-stands}
 use Rattle.pattern.proofs.Copying.{copied-rep, copied-wide, copied-room}
 use Rattle.pattern.proofs.Transposing.{transposed-rep, transposed-wide, transposed-room}
-use Rattle.pattern.proofs.Building.{built-rep, built-long, built-wide, built-room}
+use Rattle.pattern.proofs.Building.{built-rep, built-long, built-room}
 
 spare-of : (n c : ℕ) (s : List ℤ) → c + 16 * n + 16 ≤ length s → c ≤ spare n s
 unfolding spare
@@ -109,11 +109,6 @@ module _ (p : Problem) (ok : Accepted p) (s : List ℤ) (calm : Room (columnCoun
     taken-long =
         let c = cleaned-rep b e in
         built-long n (cleaned (columns a)) l t (c .columned) (length-cleaned-columns p ok) inside (c .room) enough short
-
-    pub taken-wide : length (built (columnCount (p .pattern)) l (tidied (columnCount (p .pattern)) (p .pattern .pointers) (p .pattern .rows) b s) .mem) ≡ length s
-    taken-wide =
-        let c = cleaned-rep b e in
-        built-wide n (cleaned (columns a)) l t (c .columned) (length-cleaned-columns p ok) inside (c .room) enough short ∙ c .wide
 
     pub taken-room : Room (columnCount (p .pattern)) (built (columnCount (p .pattern)) l (tidied (columnCount (p .pattern)) (p .pattern .pointers) (p .pattern .rows) b s) .mem)
     taken-room =

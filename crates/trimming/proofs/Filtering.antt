@@ -1,6 +1,7 @@
 -- A part of the list space filtered to the left: what is kept of it, counted and summed, and what stays as it was.
 -- Assumes nothing.
 use Prim.Native.Nat.{_+_, _<_, _^_, _≤_, suc, ℕ}
+use native.Mathlib.Nat.{mod-eq-of-lt}
 use native.Mathlib.Omega.{arith}
 use mathlib.Core.Bool.{Bool, false, true}
 use mathlib.Core.List.{List, [], _++_, _∷_, append-nil}
@@ -16,7 +17,12 @@ use Rattle.cells.proofs.Rows.{clipped-all}
 use Rattle.cells.proofs.Slices.{at-wr-other, at-wr-same, length-wr, plus-sum, split}
 use Rattle.cells.specs.Rows.{clipped}
 use Rattle.cells.specs.View.{at, plus, wr}
-use Rattle.trimming.specs.Model.{Keeping, counted, keeping, keptEntry}
+use Rattle.trimming.specs.Model.{Keeping, counted, keeping, keptEntry, wrapped}
+
+-- a sum that a word holds
+wrapped-sum : (a b : ℕ) → a + b < 2 ^ 63 → wrapped a b ≡ a + b
+unfolding wrapped
+wrapped-sum a b h = mod-eq-of-lt {m = 2 ^ 64} (omega arith)
 
 pub keep-snoc : (w : ℕ → Bool) (xs : List ℕ) (x : ℕ) → keep w (xs ++ (x ∷ [])) ≡ keep w xs ++ consIf (w x) x []
 unfolding keep
@@ -66,8 +72,8 @@ module _ (D : ℕ → ℕ) (l : List ℤ) (b from c d z t : ℕ) (ys : List ℕ)
         rest = λ q o. at-wr-other (m .lists) (b + k) x q (λ u. absurd (⊎-elim (λ a. omega arith) (λ a. omega (arith, h .few)) o))
             ∙ h .rest q (⊎-elim (λ a. inl a) (λ a. inr (omega arith)) o);
         long = length-wr (m .lists) (b + k) x ∙ h .long;
-        deg = λ f. let g : m .kept .deg ≡ d + total D ys = h .deg (omega (arith, td)) in plus-sum (m .kept .deg) (D x) (omega (arith, td)) ∙ omega (arith, td);
-        sum = λ f. let g : m .kept .sum ≡ z + total itself ys = h .sum (omega (arith, tz)) in plus-sum (m .kept .sum) x (omega (arith, tz)) ∙ omega (arith, tz);
+        deg = λ f. let g : m .kept .deg ≡ d + total D ys = h .deg (omega (arith, td)) in wrapped-sum (m .kept .deg) (D x) (omega (arith, td)) ∙ omega (arith, td);
+        sum = λ f. let g : m .kept .sum ≡ z + total itself ys = h .sum (omega (arith, tz)) in wrapped-sum (m .kept .sum) x (omega (arith, tz)) ∙ omega (arith, tz);
       }
 
   -- the next is not kept; the scratch may change

@@ -2,11 +2,11 @@
 -- Assumes nothing.
 use Prim.Native.Nat.{_+_, _-_, _%_, _^_, _<_, _≤_, ℕ}
 use native.Mathlib.Omega.{arith}
-use native.Mathlib.Nat.{lt-of-le-of-lt, mod-le, mod-lt}
+use native.Mathlib.Nat.{mod-lt}
 use mathlib.Core.Bool.{Bool, true, false, _&&_}
 use mathlib.Core.List.{List}
 use mathlib.Core.Path.{_≡_, ap, sym, refl, _∙_}
-use borrow.Author.Tests.{le-ltb, lt-ltb}
+use borrow.Author.Tests.{le-ltb, lt-ltb, ne-eqb}
 use lib.Dec.{eqb}
 use lib.IntN.{ℤ}
 use lib.ListN.{length}
@@ -21,13 +21,13 @@ use Rattle.packed.specs.Tray.{ownPart}
 use Rattle.packed.specs.declared.Part.{Part}
 use Rattle.trimming.specs.declared.Kept.{Kept}
 use Rattle.trimming.specs.declared.Merged.{Merged}
-use Rattle.trimming.specs.Model.{Keeping, Trimming, absorbed, buried, counted, halfway, keeping, keptAll, keptElement, keptElements, keptEntry, keptLive, keptVariable, keptVariables, keyOf, keyed, lowered, massed, nothing, relisted, settled, sized, swallows, tookWeight, trimming, turned, updated, updatedAll, updatedAt}
+use Rattle.trimming.specs.Model.{Keeping, Trimming, absorbed, buried, counted, halfway, keeping, keptAll, keptElement, keptElements, keptEntry, keptLive, keptVariable, keptVariables, keyOf, keyed, lowered, massed, nothing, relisted, settled, sized, swallows, tookWeight, trimming, turned, updated, updatedAll, updatedAt, wrapped}
 
 -- ---- what is kept
 
-pub count-step : (x size : ℕ) (k : Kept) (d t : ℕ) → d ≡ plus (k .deg) size → t ≡ plus (k .sum) x → k .cnt < 2 ^ 62
+pub count-step : (x size : ℕ) (k : Kept) (d t : ℕ) → d ≡ (k .deg + size) % 2 ^ 64 → t ≡ (k .sum + x) % 2 ^ 64 → k .cnt < 2 ^ 62
     → record { elements = k .elements; cnt = k .cnt + 1; deg = d; sum = t } ≡ counted x size k
-unfolding counted
+unfolding counted wrapped
 count-step x size k d t hd ht b = rw (plus-sum (k .cnt) 1 (omega arith), hd, ht)
 
 pub absorb-step : (n me e : ℕ) (s a b r : List ℤ) → a ≡ up n W s e 0 → b ≡ up n LEN a e 0 → r ≡ hang n b e (named n me) → r ≡ absorbed n me e s
@@ -43,6 +43,20 @@ module _ (n me flag : ℕ) (aggressive : Bool) (e w to : ℕ) (l s : List ℤ) (
       → keeping l₁ s r ≡ keptLive n me flag aggressive e w to (keeping l s k)
   unfolding keptLive keptEntry
   live-yes size l₁ r hs hl hr h = rw (← hb, h, hl, hr, hs)
+
+and-no : (b : Bool) → (b && false) ≡ false
+and-no true = refl
+and-no false = refl
+
+-- a mark above the flag is that of no element that is taken up
+module _ (n me flag : ℕ) (aggressive : Bool) (e w to : ℕ) (l s : List ℤ) (k : Kept) where
+  pub live-above : (l₁ : List ℤ) (r : Kept) → l₁ ≡ wr l to e → r ≡ counted e (w - flag) k → flag < w → keeping l₁ s r ≡ keptLive n me flag aggressive e w to (keeping l s k)
+  unfolding keptLive keptEntry
+  live-above l₁ r hl hr h = rw (ne-eqb w flag (λ u. omega arith), and-no aggressive, hl, hr)
+
+  pub live-at : (b : Bool) (l₁ : List ℤ) (r : Kept) → b ≡ (aggressive && eqb w flag) → l₁ ≡ wr l to e → r ≡ counted e 0 k → b ≡ false → w ≤ flag
+      → keeping l₁ s r ≡ keptLive n me flag aggressive e w to (keeping l s k)
+  live-at b l₁ r hb hl hr h a = live-yes n me flag aggressive e w to l s k b hb 0 l₁ r (omega arith) hl hr h
 
 module _ (n me flag : ℕ) (aggressive : Bool) (q to : ℕ) (l s : List ℤ) (k : Kept) (e w : ℕ) (he : e ≡ at l q) (hw : w ≡ rd n W s e) where
   pub element-yes : (x : Keeping) → x ≡ keptLive n me flag aggressive e w to (keeping l s k) → 0 < w → x ≡ keptElement n me flag aggressive q to (keeping l s k)
@@ -108,6 +122,10 @@ pub turn-step : (me p elements cnt : ℕ) (l a b r : List ℤ) → a ≡ wr l (p
 unfolding turned
 turn-step me p elements cnt l a b r ha hb hr = rw (← ha, ← hb) hr
 
+pub turn-there : (me p elements cnt : ℕ) (l a b r : List ℤ) (x y : ℕ) → x ≡ at l (p + elements) → a ≡ wr l (p + cnt) x → y ≡ at a p → b ≡ wr a (p + elements) y → r ≡ wr b p me
+    → r ≡ turned me p elements cnt l
+turn-there me p elements cnt l a b r x y hx ha hy hb hr = turn-step me p elements cnt l a b r (ha ∙ ap (wr l (p + cnt)) hx) (hb ∙ ap (wr a (p + elements)) hy) hr
+
 pub size-step : (n i elements cnt : ℕ) (s : List ℤ) (x y : ℕ) (a r : List ℤ) → x ≡ plus elements 1 → y ≡ plus cnt 1 → a ≡ up n ELEN s i x → r ≡ up n LEN a i y → r ≡ sized n i elements cnt s
 unfolding sized
 size-step n i elements cnt s x y a r hx hy ha hr = rw (← hx, ← hy, ← ha) hr
@@ -124,9 +142,6 @@ module _ (n i deg : ℕ) (s : List ℤ) (old : ℕ) (ho : old ≡ rd n DEGREE s 
 pub key-yes : (n sum : ℕ) → 0 < n → sum % n ≡ keyOf n sum
 unfolding keyOf
 key-yes n sum h = rw (lt-ltb 0 n h)
-
-pub key-small : (n sum : ℕ) → sum < 2 ^ 63 → sum % n < 2 ^ 63
-key-small n sum h = lt-of-le-of-lt (mod-le sum n) h
 
 pub key-low : (n sum : ℕ) → 0 < n → sum % n < n
 key-low n sum h = mod-lt sum h

@@ -20,11 +20,13 @@ use Rattle.trimming.specs.declared.Merged.{Merged}
 pub record Small (k : Kept) : Type 0 where
   pub elements : k .elements < 2 ^ 63
   pub cnt : k .cnt < 2 ^ 63
-  pub deg : k .deg < 2 ^ 63
-  pub sum : k .sum < 2 ^ 63
+
+-- the sum, as a machine's word has it
+unfoldable pub wrapped : ℕ → ℕ → ℕ
+wrapped a b = (a + b) % 2 ^ 64
 
 unfoldable pub counted : ℕ → ℕ → Kept → Kept
-counted x size k = record { elements = k .elements; cnt = plus (k .cnt) 1; deg = plus (k .deg) size; sum = plus (k .sum) x }
+counted x size k = record { elements = k .elements; cnt = plus (k .cnt) 1; deg = wrapped (k .deg) size; sum = wrapped (k .sum) x }
 
 -- the list space, the scratch, and the numbers beside them
 pub record Keeping : Type 0 where

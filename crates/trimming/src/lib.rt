@@ -21,11 +21,11 @@ pub struct Kept {
 
 // `x`, of this size, is kept.
 pub fn count(x: usize, size: usize, k: Kept) -> Kept
-    requires { ⌜ (x < 2 ^ 63) × (size < 2 ^ 63) × (k .cnt < 2 ^ 62) × Small k ⌝ }
+    requires { ⌜ (k .cnt < 2 ^ 62) × Small k ⌝ }
     ensures { λ r. ⌜ (r ≡ counted x size k) × (r .cnt ≤ k .cnt + 1) × Small r ⌝ }
 {
-    let d = cells::plus(k.deg, size);
-    let t = cells::plus(k.sum, x);
+    let d = std::num::wrapping_add_usize(k.deg, size);
+    let t = std::num::wrapping_add_usize(k.sum, x);
     Kept {
         elements: k.elements,
         cnt: k.cnt + 1,
@@ -36,7 +36,7 @@ pub fn count(x: usize, size: usize, k: Kept) -> Kept
 
 // Row `x` goes to cell `to` of the lists, and is counted. No more are kept than there are cells before `to`, so that their number needs no cap.
 pub fn keep_entry(lists: &mut [i64], n: usize, x: usize, to: usize, size: usize, k: Kept) -> Kept
-    requires { ⌜ Rows n (now lists) × (x < n) × (x < 2 ^ 63) × (to < length (now lists)) × (k .cnt ≤ to) × (size < 2 ^ 63) × Small k ⌝ }
+    requires { ⌜ Rows n (now lists) × (x < n) × (x < 2 ^ 63) × (to < length (now lists)) × (k .cnt ≤ to) × Small k ⌝ }
     ensures { λ r. ⌜ (now (lists .exit) ≡ wr (now (lists .entry)) to x) × Rows n (now (lists .exit)) × (r ≡ counted x size k) × (r .cnt ≤ k .cnt + 1) × Small r ⌝ }
 {
     cells::put_row(lists, n, to, x);
@@ -76,12 +76,13 @@ pub fn keep_live(
     requires { ⌜ Room n (now s) × Rows n (now lists) × (e < n) × (w < 2 ^ 63) × (to < length (now lists)) × (k .cnt ≤ to) × Small k ⌝ }
     ensures { λ r. ⌜ (keeping (now (lists .exit)) (now (s .exit)) r ≡ keptLive n me flag aggressive e w to (keeping (now (lists .entry)) (now (s .entry)) k)) × Room n (now (s .exit)) × Rows n (now (lists .exit)) × (r .cnt ≤ k .cnt + 1) × Small r ⌝ }
 {
-    if swallows(w, flag, aggressive) {
+    if flag < w {
+        keep_entry(lists, n, e, to, w - flag, k)
+    } else if swallows(w, flag, aggressive) {
         absorb(s, n, e, me);
         k
     } else {
-        let size = cells::less(w, flag);
-        keep_entry(lists, n, e, to, size, k)
+        keep_entry(lists, n, e, to, 0, k)
     }
 }
 
@@ -245,11 +246,29 @@ pub fn mass_eliminate(s: &mut [i64], n: usize, me: usize, i: usize, t: Merged) -
 
 // ---- the list of a row that stays
 
+// The same as below, where there is a cell behind the numbers.
+pub fn turn_there(lists: &mut [i64], n: usize, me: usize, p: usize, elements: usize, cnt: usize)
+    requires { ⌜ Rows n (now lists) × (me < n) × (me < 2 ^ 63) × (elements ≤ cnt) × (p + cnt < length (now lists)) ⌝ }
+    ensures { λ _. ⌜ (now (lists .exit) ≡ turned me p elements cnt (now (lists .entry))) × Rows n (now (lists .exit)) ⌝ }
+{
+    let last = cells::row(lists, n, p + elements);
+    cells::put_row(lists, n, p + cnt, last);
+    let first = cells::row(lists, n, p);
+    cells::put_row(lists, n, p + elements, first);
+    cells::put_row(lists, n, p, me);
+}
+
 // Of the `cnt` numbers from `p` on the first goes to place `elements`, the one there to the end, and `me` to the front.
 pub fn turn_list(lists: &mut [i64], n: usize, me: usize, p: usize, elements: usize, cnt: usize)
     requires { ⌜ Rows n (now lists) × (me < n) × (me < 2 ^ 63) × (p < 2 ^ 63) × (elements < 2 ^ 63) × (cnt < 2 ^ 63) ⌝ }
     ensures { λ _. ⌜ (now (lists .exit) ≡ turned me p elements cnt (now (lists .entry))) × Rows n (now (lists .exit)) ⌝ }
 {
+    if elements <= cnt {
+        if p + cnt < lists.len() {
+            turn_there(lists, n, me, p, elements, cnt);
+            return;
+        }
+    }
     cells::copy_row(lists, n, p + elements, p + cnt);
     cells::copy_row(lists, n, p, p + elements);
     cells::poke_row(lists, n, p, me);
@@ -268,7 +287,7 @@ pub fn finish_list(s: &mut [i64], n: usize, i: usize, elements: usize, cnt: usiz
 
 // The degree without the new element: the smaller of the old and `deg`.
 pub fn lower_degree(s: &mut [i64], n: usize, i: usize, deg: usize)
-    requires { ⌜ Room n (now s) × (i < n) × (deg < 2 ^ 63) ⌝ }
+    requires { ⌜ Room n (now s) × (i < n) ⌝ }
     ensures { λ _. ⌜ (now (s .exit) ≡ lowered n i deg (now (s .entry))) × Room n (now (s .exit)) ⌝ }
 {
     let old = cells::get(s, n, cells::DEGREE, i);
@@ -279,8 +298,8 @@ pub fn lower_degree(s: &mut [i64], n: usize, i: usize, deg: usize)
 
 // The key of a sum.
 pub fn key_of(n: usize, sum: usize) -> usize
-    requires { ⌜ (0 < n) × (sum < 2 ^ 63) ⌝ }
-    ensures { λ r. ⌜ (r ≡ keyOf n sum) × (r < n) × (r < 2 ^ 63) ⌝ }
+    requires { ⌜ 0 < n ⌝ }
+    ensures { λ r. ⌜ (r ≡ keyOf n sum) × (r < n) ⌝ }
 {
     sum % n
 }

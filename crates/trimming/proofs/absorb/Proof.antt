@@ -7,23 +7,18 @@ use Rattle.trimming.proofs.absorb.Lts as lts
 use Rattle.cells.proofs.put_parent.Reads as put-parent-reads
 use Rattle.cells.proofs.set.Reads as set-reads
 
--- src/lib.rt:57:5
 set-requires : tie.Need-set-requires
 set-requires c κs = search needs
 
--- src/lib.rt:58:5
 set-requires-2 : tie.Need-set-requires-2
 set-requires-2 c κs = search needs
 
--- src/lib.rt:59:5
 put-parent-requires : tie.Need-put-parent-requires
 put-parent-requires c κs = search needs
 
--- src/lib.rt:53:1
 same-length : tie.Need-same-length
 same-length c = search needs
 
--- src/lib.rt:53:1
 returns : tie.Need-returns
 -- the calls by name, so that a wrong store is refused at once
 returns c =

@@ -8,23 +8,18 @@ use Rattle.cells.proofs.put.Reads as put-reads
 use Rattle.cells.proofs.put_parent.Reads as put-parent-reads
 use Rattle.cells.proofs.set.Reads as set-reads
 
--- src/lib.rt:216:5
 set-requires : tie.Need-set-requires
 set-requires c κs = search needs
 
--- src/lib.rt:217:5
 put-parent-requires : tie.Need-put-parent-requires
 put-parent-requires c κs = search needs
 
--- src/lib.rt:218:5
 put-requires : tie.Need-put-requires
 put-requires c κs = search needs
 
--- src/lib.rt:212:1
 same-length : tie.Need-same-length
 same-length c = search needs
 
--- src/lib.rt:212:1
 returns : tie.Need-returns
 returns c = search (needs, bury-step)
 

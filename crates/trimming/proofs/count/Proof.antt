@@ -4,23 +4,19 @@ use Rattle.trimming.proofs.count.Statement.{statement}
 use Rattle.trimming.proofs.count.Tie as tie
 use Rattle.trimming.proofs.count.Reads as reads
 use Rattle.trimming.proofs.count.Lts as lts
-use Rattle.cells.proofs.plus.Reads as plus-reads
+use Rattle.std.proofs.num.wrapping_add_usize.Reads as wrapping-add-usize-reads
 
--- src/lib.rt:27:9
-plus-requires : tie.Need-plus-requires
-plus-requires c κs = search needs
+wrapping-add-usize-requires : tie.Need-wrapping-add-usize-requires
+wrapping-add-usize-requires c κs = search needs
 
--- src/lib.rt:28:9
-plus-requires-2 : tie.Need-plus-requires-2
-plus-requires-2 c κs = search needs
+wrapping-add-usize-requires-2 : tie.Need-wrapping-add-usize-requires-2
+wrapping-add-usize-requires-2 c κs = search needs
 
--- src/lib.rt:31:14
 add-t6 : tie.Need-add-t6
 add-t6 c = search needs
 
--- src/lib.rt:23:1
 returns : tie.Need-returns
 returns c = search (needs, count-step)
 
 pub count-spec : {M : Type 1} → statement M
-count-spec = tie.close (tie.spec plus-requires plus-requires-2 add-t6 returns)
+count-spec = tie.close (tie.spec wrapping-add-usize-requires wrapping-add-usize-requires-2 add-t6 returns)

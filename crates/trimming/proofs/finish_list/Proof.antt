@@ -7,27 +7,21 @@ use Rattle.trimming.proofs.finish_list.Lts as lts
 use Rattle.cells.proofs.plus.Reads as plus-reads
 use Rattle.cells.proofs.set.Reads as set-reads
 
--- src/lib.rt:259:9
 plus-requires : tie.Need-plus-requires
 plus-requires c κs = search needs
 
--- src/lib.rt:260:9
 plus-requires-2 : tie.Need-plus-requires-2
 plus-requires-2 c κs = search needs
 
--- src/lib.rt:261:5
 set-requires : tie.Need-set-requires
 set-requires c κs = search needs
 
--- src/lib.rt:262:5
 set-requires-2 : tie.Need-set-requires-2
 set-requires-2 c κs = search needs
 
--- src/lib.rt:255:1
 same-length : tie.Need-same-length
 same-length c = search needs
 
--- src/lib.rt:255:1
 returns : tie.Need-returns
 returns c = search (needs, size-step)
 

@@ -8,39 +8,30 @@ use Rattle.cells.proofs.row.Reads as row-reads
 use Rattle.cells.proofs.get.Reads as get-reads
 use Rattle.trimming.proofs.keep_live.Reads as keep-live-reads
 
--- src/lib.rt:102:9
 row-requires : tie.Need-row-requires
 row-requires c κs = search needs
 
--- src/lib.rt:103:9
 get-requires : tie.Need-get-requires
 get-requires c κs = search needs
 
--- src/lib.rt:105:9
 keep-live-requires : tie.Need-keep-live-requires
 keep-live-requires c κs = search needs
 
--- src/lib.rt:88:1
 same-length : tie.Need-same-length
 same-length c = search needs
 
--- src/lib.rt:88:1
 same-length-2 : tie.Need-same-length-2
 same-length-2 c = search needs
 
--- src/lib.rt:88:1
 returns : tie.Need-returns
 returns c = search (needs, element-yes)
 
--- src/lib.rt:88:1
 same-length-3 : tie.Need-same-length-3
 same-length-3 c = search needs
 
--- src/lib.rt:88:1
 same-length-4 : tie.Need-same-length-4
 same-length-4 c = search needs
 
--- src/lib.rt:88:1
 returns-2 : tie.Need-returns-2
 returns-2 c = search (needs, element-no)
 

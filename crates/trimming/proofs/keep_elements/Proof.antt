@@ -21,48 +21,37 @@ Inv-loop lists₀ s₀ n me p len flag aggressive turns k₀ t₀ lists s k t = 
 abbrev μ-loop : tie.MeasureT-loop
 μ-loop lists₀ s₀ n me p len flag aggressive turns k₀ t₀ lists s k t = turns - t
 
--- src/lib.rt:133:9
 clip-requires : tie.Need-clip-requires Inv-loop μ-loop
 clip-requires c κs = search needs
 
--- src/lib.rt:140:5
 loop-holds : tie.Need-loop-holds Inv-loop μ-loop
 loop-holds c = search (needs, begin)
 
--- src/lib.rt:141:43
 add-keep-element : tie.Need-add-keep-element Inv-loop μ-loop
 add-keep-element c = search needs
 
--- src/lib.rt:141:50
 add-keep-element-2 : tie.Need-add-keep-element-2 Inv-loop μ-loop
 add-keep-element-2 c = search needs
 
--- src/lib.rt:141:9
 keep-element-requires : tie.Need-keep-element-requires Inv-loop μ-loop
 -- by parts: the search for all of them at once breaks off
 keep-element-requires c κs = (search needs, search needs, search needs, search needs, search needs, search needs)
 
--- src/lib.rt:140:9
 add-t : tie.Need-add-t Inv-loop μ-loop
 add-t c = search needs
 
--- src/lib.rt:140:5
 loop-less : tie.Need-loop-less Inv-loop μ-loop
 loop-less c = search needs
 
--- src/lib.rt:140:5
 loop-again : tie.Need-loop-again Inv-loop μ-loop
 loop-again c = (search (needs, turn), search needs, search needs, search needs, search needs, search needs, search needs, search needs)
 
--- src/lib.rt:120:1
 same-length : tie.Need-same-length Inv-loop μ-loop
 same-length c = search needs
 
--- src/lib.rt:120:1
 same-length-2 : tie.Need-same-length-2 Inv-loop μ-loop
 same-length-2 c = search needs
 
--- src/lib.rt:120:1
 returns : tie.Need-returns Inv-loop μ-loop
 returns c = search (needs, elements-end)
 

@@ -8,31 +8,24 @@ use Rattle.cells.proofs.row.Reads as row-reads
 use Rattle.cells.proofs.get.Reads as get-reads
 use Rattle.trimming.proofs.keep_entry.Reads as keep-entry-reads
 
--- src/lib.rt:142:9
 row-requires : tie.Need-row-requires
 row-requires c κs = search needs
 
--- src/lib.rt:143:9
 get-requires : tie.Need-get-requires
 get-requires c κs = search needs
 
--- src/lib.rt:145:9
 keep-entry-requires : tie.Need-keep-entry-requires
 keep-entry-requires c κs = search needs
 
--- src/lib.rt:138:1
 same-length : tie.Need-same-length
 same-length c = search needs
 
--- src/lib.rt:138:1
 returns : tie.Need-returns
 returns c = search (needs, variable-yes)
 
--- src/lib.rt:138:1
 same-length-2 : tie.Need-same-length-2
 same-length-2 c = search needs
 
--- src/lib.rt:138:1
 returns-2 : tie.Need-returns-2
 returns-2 c = search (needs, variable-no)
 

@@ -20,52 +20,40 @@ Inv-loop lists₀ s n p from len there turns k₀ t₀ lists k t = Turned (λ j 
 abbrev μ-loop : tie.MeasureT-loop
 μ-loop lists₀ s n p from len there turns k₀ t₀ lists k t = turns - t
 
--- src/lib.rt:173:9
 clip-requires : tie.Need-clip-requires Inv-loop μ-loop
 clip-requires c κs = search needs
 
--- src/lib.rt:174:42
 add-clip : tie.Need-add-clip Inv-loop μ-loop
 add-clip c = search needs
 
--- src/lib.rt:174:9
 clip-requires-2 : tie.Need-clip-requires-2 Inv-loop μ-loop
 clip-requires-2 c κs = search needs
 
--- src/lib.rt:181:5
 loop-holds : tie.Need-loop-holds Inv-loop μ-loop
 loop-holds c = search (needs, begin)
 
--- src/lib.rt:182:40
 add-keep-variable : tie.Need-add-keep-variable Inv-loop μ-loop
 add-keep-variable c = search needs
 
--- src/lib.rt:182:50
 add-keep-variable-2 : tie.Need-add-keep-variable-2 Inv-loop μ-loop
 add-keep-variable-2 c = search needs
 
--- src/lib.rt:182:9
 keep-variable-requires : tie.Need-keep-variable-requires Inv-loop μ-loop
 -- by parts: the search for all of them at once breaks off
 keep-variable-requires c κs = (search needs, search needs, search needs, search needs, search needs, search needs)
 
--- src/lib.rt:181:9
 add-t : tie.Need-add-t Inv-loop μ-loop
 add-t c = search needs
 
--- src/lib.rt:181:5
 loop-less : tie.Need-loop-less Inv-loop μ-loop
 loop-less c = search needs
 
--- src/lib.rt:181:5
 loop-again : tie.Need-loop-again Inv-loop μ-loop
 loop-again c = search (needs, turn)
 
--- src/lib.rt:161:1
 same-length : tie.Need-same-length Inv-loop μ-loop
 same-length c = search needs
 
--- src/lib.rt:161:1
 returns : tie.Need-returns Inv-loop μ-loop
 returns c = search (needs, variables-end)
 

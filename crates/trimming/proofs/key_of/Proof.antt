@@ -1,17 +1,15 @@
-use Rattle.trimming.proofs.Steps.{key-low, key-small, key-yes}
+use Rattle.trimming.proofs.Steps.{key-low, key-yes}
 use borrow.Author.Needs.{needs}
 use Rattle.trimming.proofs.key_of.Statement.{statement}
 use Rattle.trimming.proofs.key_of.Tie as tie
 use Rattle.trimming.proofs.key_of.Reads as reads
 use Rattle.trimming.proofs.key_of.Lts as lts
 
--- src/lib.rt:299:5
 rem-result : tie.Need-rem-result
 rem-result c = search needs
 
--- src/lib.rt:295:1
 returns : tie.Need-returns
-returns c = search (needs, key-yes, key-low, key-small)
+returns c = search (needs, key-yes, key-low)
 
 pub key-of-spec : {M : Type 1} → statement M
 key-of-spec = tie.close (tie.spec rem-result returns)

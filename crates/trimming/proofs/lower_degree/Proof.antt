@@ -7,27 +7,21 @@ use Rattle.trimming.proofs.lower_degree.Lts as lts
 use Rattle.cells.proofs.get.Reads as get-reads
 use Rattle.cells.proofs.set.Reads as set-reads
 
--- src/lib.rt:270:9
 get-requires : tie.Need-get-requires
 get-requires c κs = search needs
 
--- src/lib.rt:272:9
 set-requires : tie.Need-set-requires
 set-requires c κs = search needs
 
--- src/lib.rt:266:1
 same-length : tie.Need-same-length
 same-length c = search needs
 
--- src/lib.rt:266:1
 returns : tie.Need-returns
 returns c = search (needs, lower-yes)
 
--- src/lib.rt:266:1
 same-length-2 : tie.Need-same-length-2
 same-length-2 c = search needs
 
--- src/lib.rt:266:1
 returns-2 : tie.Need-returns-2
 returns-2 c = search (needs, lower-no)
 

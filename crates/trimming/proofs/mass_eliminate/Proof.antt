@@ -8,27 +8,21 @@ use Rattle.cells.proofs.plus.Reads as plus-reads
 use Rattle.trimming.proofs.bury.Reads as bury-reads
 use Rattle.trimming.proofs.take_weight.Reads as take-weight-reads
 
--- src/lib.rt:232:9
 take-weight-requires : tie.Need-take-weight-requires
 take-weight-requires c κs = search needs
 
--- src/lib.rt:233:5
 bury-requires : tie.Need-bury-requires
 bury-requires c κs = search needs
 
--- src/lib.rt:234:9
 plus-requires : tie.Need-plus-requires
 plus-requires c κs = search needs
 
--- src/lib.rt:235:9
 plus-requires-2 : tie.Need-plus-requires-2
 plus-requires-2 c κs = search needs
 
--- src/lib.rt:228:1
 same-length : tie.Need-same-length
 same-length c = search needs
 
--- src/lib.rt:228:1
 returns : tie.Need-returns
 returns c = search (needs, mass-step, mass-mem)
 

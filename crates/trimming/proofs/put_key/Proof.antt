@@ -7,27 +7,21 @@ use Rattle.trimming.proofs.put_key.Lts as lts
 use Rattle.cells.proofs.note.Reads as note-reads
 use Rattle.cells.proofs.look.Reads as look-reads
 
--- src/lib.rt:289:9
 look-requires : tie.Need-look-requires
 look-requires c κs = search needs
 
--- src/lib.rt:290:5
 note-requires : tie.Need-note-requires
 note-requires c κs = search needs
 
--- src/lib.rt:291:5
 note-requires-2 : tie.Need-note-requires-2
 note-requires-2 c κs = search needs
 
--- src/lib.rt:292:5
 note-requires-3 : tie.Need-note-requires-3
 note-requires-3 c κs = search needs
 
--- src/lib.rt:285:1
 same-length : tie.Need-same-length
 same-length c = search needs
 
--- src/lib.rt:285:1
 returns : tie.Need-returns
 returns c = search (needs, put-key-step)
 

@@ -11,39 +11,30 @@ use Rattle.trimming.proofs.lower_degree.Reads as lower-degree-reads
 use Rattle.trimming.proofs.put_key.Reads as put-key-reads
 use Rattle.trimming.proofs.turn_list.Reads as turn-list-reads
 
--- src/lib.rt:300:9
 get-requires : tie.Need-get-requires
 get-requires c κs = search needs
 
--- src/lib.rt:301:5
 turn-list-requires : tie.Need-turn-list-requires
 turn-list-requires c κs = search needs
 
--- src/lib.rt:302:5
 finish-list-requires : tie.Need-finish-list-requires
 finish-list-requires c κs = search needs
 
--- src/lib.rt:303:5
 lower-degree-requires : tie.Need-lower-degree-requires
 lower-degree-requires c κs = search needs
 
--- src/lib.rt:304:9
 key-of-requires : tie.Need-key-of-requires
 key-of-requires c κs = search needs
 
--- src/lib.rt:305:5
 put-key-requires : tie.Need-put-key-requires
 put-key-requires c κs = search needs
 
--- src/lib.rt:296:1
 same-length : tie.Need-same-length
 same-length c = search needs
 
--- src/lib.rt:296:1
 same-length-2 : tie.Need-same-length-2
 same-length-2 c = search needs
 
--- src/lib.rt:296:1
 returns : tie.Need-returns
 returns c = search (needs, relist-mem, relist-lists)
 

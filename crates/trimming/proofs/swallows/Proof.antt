@@ -5,11 +5,9 @@ use Rattle.trimming.proofs.swallows.Tie as tie
 use Rattle.trimming.proofs.swallows.Reads as reads
 use Rattle.trimming.proofs.swallows.Lts as lts
 
--- src/lib.rt:46:1
 returns : tie.Need-returns
 returns c = search (needs, swallow-yes)
 
--- src/lib.rt:46:1
 returns-2 : tie.Need-returns-2
 returns-2 c = search (needs, swallow-no)
 

@@ -8,31 +8,24 @@ use Rattle.cells.proofs.plus.Reads as plus-reads
 use Rattle.cells.proofs.note.Reads as note-reads
 use Rattle.cells.proofs.look.Reads as look-reads
 
--- src/lib.rt:203:9
 look-requires : tie.Need-look-requires
 look-requires c κs = search needs
 
--- src/lib.rt:204:9
 look-requires-2 : tie.Need-look-requires-2
 look-requires-2 c κs = search needs
 
--- src/lib.rt:205:9
 plus-requires : tie.Need-plus-requires
 plus-requires c κs = search needs
 
--- src/lib.rt:206:5
 note-requires : tie.Need-note-requires
 note-requires c κs = search needs
 
--- src/lib.rt:207:5
 note-requires-2 : tie.Need-note-requires-2
 note-requires-2 c κs = search needs
 
--- src/lib.rt:199:1
 same-length : tie.Need-same-length
 same-length c = search needs
 
--- src/lib.rt:199:1
 returns : tie.Need-returns
 returns c = search (needs, weight-step)
 

@@ -21,43 +21,33 @@ Inv-loop lists₀ s₀ n me from len flag aggressive made turns t₀ j₀ lists 
 abbrev μ-loop : tie.MeasureT-loop
 μ-loop lists₀ s₀ n me from len flag aggressive made turns t₀ j₀ lists s t j = turns - j
 
--- src/lib.rt:384:9
 clip-requires : tie.Need-clip-requires Inv-loop μ-loop
 clip-requires c κs = search needs
 
--- src/lib.rt:389:5
 loop-holds : tie.Need-loop-holds Inv-loop μ-loop
 loop-holds c = search (needs, begin)
 
--- src/lib.rt:390:40
 add-update-at : tie.Need-add-update-at Inv-loop μ-loop
 add-update-at c = search needs
 
--- src/lib.rt:390:9
 update-at-requires : tie.Need-update-at-requires Inv-loop μ-loop
 update-at-requires c κs = search needs
 
--- src/lib.rt:389:9
 add-j : tie.Need-add-j Inv-loop μ-loop
 add-j c = search needs
 
--- src/lib.rt:389:5
 loop-less : tie.Need-loop-less Inv-loop μ-loop
 loop-less c = search needs
 
--- src/lib.rt:389:5
 loop-again : tie.Need-loop-again Inv-loop μ-loop
 loop-again c = search (needs, turn)
 
--- src/lib.rt:370:1
 same-length : tie.Need-same-length Inv-loop μ-loop
 same-length c = search needs
 
--- src/lib.rt:370:1
 same-length-2 : tie.Need-same-length-2 Inv-loop μ-loop
 same-length-2 c = search needs
 
--- src/lib.rt:370:1
 returns : tie.Need-returns Inv-loop μ-loop
 returns c = search (needs, rows-end)
 

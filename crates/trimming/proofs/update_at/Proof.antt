@@ -7,23 +7,18 @@ use Rattle.trimming.proofs.update_at.Lts as lts
 use Rattle.cells.proofs.row.Reads as row-reads
 use Rattle.trimming.proofs.update_variable.Reads as update-variable-reads
 
--- src/lib.rt:347:9
 row-requires : tie.Need-row-requires
 row-requires c κs = search needs
 
--- src/lib.rt:348:5
 update-variable-requires : tie.Need-update-variable-requires
 update-variable-requires c κs = search needs
 
--- src/lib.rt:334:1
 same-length : tie.Need-same-length
 same-length c = search needs
 
--- src/lib.rt:334:1
 same-length-2 : tie.Need-same-length-2
 same-length-2 c = search needs
 
--- src/lib.rt:334:1
 returns : tie.Need-returns
 returns c = search (needs, at-step)
 

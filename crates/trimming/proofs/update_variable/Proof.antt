@@ -8,39 +8,30 @@ use Rattle.trimming.proofs.keep_all.Reads as keep-all-reads
 use Rattle.trimming.proofs.mass_eliminate.Reads as mass-eliminate-reads
 use Rattle.trimming.proofs.relist.Reads as relist-reads
 
--- src/lib.rt:324:9
 keep-all-requires : tie.Need-keep-all-requires
 keep-all-requires c κs = search needs
 
--- src/lib.rt:326:9
 relist-requires : tie.Need-relist-requires
 relist-requires c κs = search needs
 
--- src/lib.rt:329:9
 mass-eliminate-requires : tie.Need-mass-eliminate-requires
 mass-eliminate-requires c κs = search needs
 
--- src/lib.rt:311:1
 same-length : tie.Need-same-length
 same-length c = search needs
 
--- src/lib.rt:311:1
 same-length-2 : tie.Need-same-length-2
 same-length-2 c = search needs
 
--- src/lib.rt:311:1
 returns : tie.Need-returns
 returns c = search (needs, update-stays)
 
--- src/lib.rt:311:1
 same-length-3 : tie.Need-same-length-3
 same-length-3 c = search needs
 
--- src/lib.rt:311:1
 same-length-4 : tie.Need-same-length-4
 same-length-4 c = search needs
 
--- src/lib.rt:311:1
 returns-2 : tie.Need-returns-2
 returns-2 c = search (needs, update-goes)
 
