@@ -1,5 +1,5 @@
 // The elimination: pivot after pivot, each in six steps, until every variable is eliminated; and what its elements add to the statistics.
-// Nothing here asks for a memory that makes sense: a contract is the function's own model, and the laws of `proofs/` say what it does to the graph.
+// Nothing here asks for a memory that makes sense, but for rows in the list space: a contract is the function's own model, and the laws of `proofs/` say what it does to the graph.
 ghost use mathlib.Core.Path.{_≡_};
 ghost use Prim.Native.Nat.{_+_, _<_, _^_, max};
 ghost use Rattle.cells.specs.View.{Room, plus};

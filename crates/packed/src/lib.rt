@@ -1,5 +1,5 @@
 // Lists packed into one lent space, their collection to the space's beginning, and the list of a new element gathered from others.
-// Nothing here asks for a memory that makes sense: a contract is the function's own model, and the laws of `proofs/` say what it does to the lists.
+// Nothing here asks for a memory that makes sense, but for rows in the list space: a contract is the function's own model, and the laws of `proofs/` say what it does to the lists.
 ghost use mathlib.Core.Path.{_≡_};
 ghost use Prim.Native.Nat.{_+_, _<_, _≤_, _^_};
 ghost use lib.ListN.{length};
