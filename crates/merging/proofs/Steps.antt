@@ -1,18 +1,14 @@
 -- The code's steps are the model's: one law for each way out of a function, its premises in the words of what was called.
 -- Assumes nothing.
 use Prim.Native.Nat.{_+_, _-_, _<_, _≤_, ℕ}
-use native.Mathlib.Omega.{arith}
 use mathlib.Core.Bool.{Bool, true, false}
 use mathlib.Core.List.{List}
 use mathlib.Core.Logic.{_≢_}
 use mathlib.Core.Path.{_≡_}
 use borrow.Author.Tests.{eq-eqb, le-ltb, lt-ltb, ne-eqb}
 use lib.IntN.{ℤ}
-use Rattle.plain.proofs.Turns.{finish}
-use Rattle.plain.specs.Turns.{Turned, times}
 use Rattle.cells.specs.Layout.{ELEN, HHEAD, HKEY, HNEXT, LEN, MERGES, NV, PE, W}
 use Rattle.cells.specs.Links.{hang, named}
-use Rattle.cells.specs.Rows.{clipped}
 use Rattle.cells.specs.View.{at, plus, rd, up}
 use Rattle.merging.specs.Model.{Comparing, Merging, alikeNow, allMarked, bucketRun, compared, comparing, joined, left, markedList, marking, mergedAt, mergedInto, mergedKey, mergedOf, mergedRow, merging, passedNext, sameElements, tailMarked, takenNext, weighed}
 use Rattle.merging.specs.declared.Tally.{Tally}

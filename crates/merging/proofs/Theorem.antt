@@ -1,7 +1,7 @@
 -- Step 5 in memory: from the graph after step 4, with the kept rows in the buckets of their keys, to the definition's `mergedAlike`; the buckets are empty again, and the
 -- flag rose by at most one for each row that was compared. What it leaves of the memory beside, and that the marks still tell which elements are no more.
 -- Assumes nothing.
-use Prim.Native.Nat.{_+_, _<_, _≤_, _^_, suc, zero, ℕ}
+use Prim.Native.Nat.{_+_, _<_, _≤_, _^_, ℕ}
 use native.Mathlib.Omega.{arith}
 use mathlib.Core.Bool.{true, false}
 use mathlib.Core.List.{List, [], _∷_, foldl}

@@ -2,20 +2,19 @@
 -- Assumes nothing.
 use mathlib.Core.Path.{_≡_, refl, sym, ap, _∙_}
 use mathlib.Core.Bool.{Bool, true, false, cond}
-use mathlib.Core.List.{List, [], map}
+use mathlib.Core.List.{List, []}
 use lib.Dec.{eqb}
 use lib.IntN.{ℤ, pos}
 use lib.ListN.{length, replicate}
-use Rattle.definition.specs.Answers.{accepts, answerOf, numberOf, ordered, orderedJumbled, ruleFor}
+use Rattle.definition.specs.Answers.{accepts, answerOf, numberOf, ordered, orderedJumbled}
 use Rattle.definition.specs.Answers as Answers
-use Rattle.definition.specs.Ordering.{plain}
-use Rattle.definition.specs.Outcome.{seven, collectionCount, withCount, refused}
+use Rattle.definition.specs.Outcome.{withCount, refused}
 use Rattle.definition.specs.Outcome as Outcomes
 use Rattle.definition.specs.Pattern.{columns, jumbled}
 use Rattle.definition.specs.Promise.{Lent, problemOf, zeroed, filled, untouched, after}
 use Rattle.facts.proofs.Accepted.{checked, answer-is}
 use Rattle.facts.specs.Accepted.{Accepted}
-use Rattle.numbers.specs.Meaning.{answerMeant, statisticsMeant, outcomeMeant}
+use Rattle.numbers.specs.Meaning.{answerMeant, outcomeMeant}
 use Rattle.numbers.specs.declared.Answer.{Answer}
 use Rattle.numbers.specs.declared.Outcome.{Outcome}
 use Rattle.numbers.specs.declared.Statistics.{Statistics}

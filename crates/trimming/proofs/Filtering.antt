@@ -6,16 +6,14 @@ use native.Mathlib.Omega.{arith}
 use mathlib.Core.Bool.{Bool, false, true}
 use mathlib.Core.List.{List, [], _++_, _∷_, append-nil}
 use mathlib.Core.Logic.{_⊎_, inl, inr, ⊎-elim}
-use mathlib.Core.Path.{_∙_, _≡_, ap, refl, subst, sym}
+use mathlib.Core.Path.{_∙_, _≡_, ap, refl}
 use lib.IntN.{ℤ}
 use lib.ListN.{length, length-append}
-use Rattle.plain.proofs.Entries.{entries-none, entries-same, entries-snoc}
+use Rattle.plain.proofs.Entries.{entries-same, entries-snoc}
 use Rattle.plain.proofs.Sums.{total-append, total-one}
 use Rattle.plain.specs.Lists.{consIf, itself, keep, total}
 use Rattle.plain.specs.Turns.{entries}
-use Rattle.cells.proofs.Rows.{clipped-all}
-use Rattle.cells.proofs.Slices.{at-wr-other, at-wr-same, length-wr, plus-sum, split}
-use Rattle.cells.specs.Rows.{clipped}
+use Rattle.cells.proofs.Slices.{at-wr-other, at-wr-same, length-wr, plus-sum}
 use Rattle.cells.specs.View.{at, plus, wr}
 use Rattle.trimming.specs.Model.{Keeping, counted, keeping, keptEntry, wrapped}
 

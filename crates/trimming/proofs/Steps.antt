@@ -5,7 +5,7 @@ use native.Mathlib.Omega.{arith}
 use native.Mathlib.Nat.{mod-lt}
 use mathlib.Core.Bool.{Bool, true, false, _&&_}
 use mathlib.Core.List.{List}
-use mathlib.Core.Path.{_≡_, ap, sym, refl, _∙_}
+use mathlib.Core.Path.{_≡_, ap, refl, _∙_}
 use borrow.Author.Tests.{le-ltb, lt-ltb, ne-eqb}
 use lib.Dec.{eqb}
 use lib.IntN.{ℤ}
@@ -21,7 +21,7 @@ use Rattle.packed.specs.Tray.{ownPart}
 use Rattle.packed.specs.declared.Part.{Part}
 use Rattle.trimming.specs.declared.Kept.{Kept}
 use Rattle.trimming.specs.declared.Merged.{Merged}
-use Rattle.trimming.specs.Model.{Keeping, Trimming, absorbed, buried, counted, halfway, keeping, keptAll, keptElement, keptElements, keptEntry, keptLive, keptVariable, keptVariables, keyOf, keyed, lowered, massed, nothing, relisted, settled, sized, swallows, tookWeight, trimming, turned, updated, updatedAll, updatedAt, wrapped}
+use Rattle.trimming.specs.Model.{Keeping, Trimming, absorbed, buried, counted, halfway, keeping, keptAll, keptElement, keptElements, keptEntry, keptLive, keptVariable, keptVariables, keyOf, keyed, lowered, massed, nothing, relisted, settled, sized, tookWeight, trimming, turned, updated, updatedAll, updatedAt, wrapped}
 
 -- ---- what is kept
 
