@@ -39,7 +39,7 @@ use Rattle.trimming.specs.Model.{Trimming, updatedAll}
 use Rattle.trimming.specs.Step.{Ready, Trimmed}
 use Rattle.elimination.specs.declared.Turn.{Turn}
 use Rattle.sizing.specs.Model.{weighedRows}
-use Rattle.standing.proofs.Begun.{Before, begun, chained₂, drawn₁, drawn₂, extent₂, heads₂, inside₁, list₁, logged₂, long₁, outside₂, pivot-var, place₂, sized, small}
+use Rattle.standing.proofs.Begun.{Before, begun, chained₂, drawn₁, drawn₂, extent₂, heads₂, inside₁, list₁, logged₂, outside₂, pivot-var, place₂, sized, small}
 use Rattle.standing.proofs.Weighing.{weighed-total}
 
 module _ {N n nd size : ℕ} {l s : List ℤ} {t : Turn} {x : Outcomes.Statistics} {st : State} {rm : room.Room} {p d : ℕ} (b : Before N n nd size l s t x st rm p d) (aggressive : Bool) where
@@ -80,7 +80,7 @@ module _ {N n nd size : ℕ} {l s : List ℤ} {t : Turn} {x : Outcomes.Statistic
       (subst (λ (a : ℕ). D (t .merges) (updatedAll n p (t .flag) aggressive a (begun b .made .count) (t .merges) (begun b .lists) (sized b))) (place₂ b)
       (subst (λ (k : ℕ). D (t .merges) (updatedAll n p (t .flag) aggressive (rd n PE (sized b) p) k (t .merges) (begun b .lists) (sized b))) (extent₂ b)
       (rows-done n p (t .flag) aggressive (upd (listOf g₁) p new) (begun b .lists) (sized b) (begun b .made .made) (begun b .made .base) (begun b .made .free) (drawn₂ b .space)
-      (omega (arith, long₁ b, b .narrow)) (pivot-inside ready) (elementsOf g₁) (variablesOf g₁) (fine ready aggressive) (once ready) (pivot ready) (far ready) (small b) (t .merges))))
+      (pivot-inside ready) (elementsOf g₁) (variablesOf g₁) (fine ready aggressive) (once ready) (pivot ready) (far ready) (small b) (t .merges))))
 
   pub trimmed₃ : Trimmed n (passed (st .graph) p) (afterTrim aggressive (st .graph) p) p (collected (st .graph) p) (begun b .lists) (sized b) (begun b .made .made) (begun b .made .base) (begun b .made .free) trims
   trimmed₃ = rows-in-memory ready aggressive (b .stands .merges) trims done (heads₂ b) (logged₂ b)

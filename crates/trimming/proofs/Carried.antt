@@ -29,7 +29,7 @@ use Rattle.trimming.proofs.Leaving.{done-goes}
 use Rattle.trimming.proofs.Rowwise.{Fine}
 use Rattle.trimming.proofs.Staying.{done-stays}
 
-module _ (n me flag : ℕ) (aggressive : Bool) (X : ℕ → List ℕ) (l s : List ℤ) (cnt base lim : ℕ) (g : Space n X l s cnt base lim) (narrow : length l < 2 ^ 62)
+module _ (n me flag : ℕ) (aggressive : Bool) (X : ℕ → List ℕ) (l s : List ℤ) (cnt base lim : ℕ) (g : Space n X l s cnt base lim)
     (hm : me < n) (E U : ℕ → List ℕ) where
   abbrev from : ℕ
   from = rd n PE s me
@@ -92,8 +92,8 @@ module _ (n me flag : ℕ) (aggressive : Bool) (X : ℕ → List ℕ) (l s : Lis
       unfolding updatedAt
       turn =
           rw (here, more)
-          (⊎-elim (λ z. done-stays n me flag aggressive X E U l s cnt base lim made narrow hm (done t) i due m h z)
-          (λ z. done-goes n me flag aggressive X E U l s cnt base lim made narrow hm small (done t) i due m h z)
+          (⊎-elim (λ z. done-stays n me flag aggressive X E U l s cnt base lim made hm (done t) i due m h z)
+          (λ z. done-goes n me flag aggressive X E U l s cnt base lim made hm small (done t) i due m h z)
           (split 0 (kept n me flag aggressive s E U i)))
 
     begun : Along 0 (trimming l s (record { weight = 0; made = made }))

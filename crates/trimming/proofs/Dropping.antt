@@ -1,28 +1,27 @@
 -- The elements of a row: those that are kept move to the left, those of external size 0 are taken up.
 -- Assumes nothing.
-use Prim.Native.Nat.{_+_, _-_, _<_, _^_, _≤_, suc, ℕ}
+use Prim.Native.Nat.{_+_, _-_, _<_, _≤_, suc, ℕ}
 use native.Mathlib.Omega.{arith}
 use mathlib.Core.Bool.{Bool, false, true, not, _&&_}
-use mathlib.Core.List.{List, [], _++_, _∷_}
-use mathlib.Core.Logic.{_⊎_, inl, inr, ⊎-elim}
-use mathlib.Core.Path.{_∙_, _≡_, ap, refl, subst, sym}
+use mathlib.Core.List.{List}
+use mathlib.Core.Logic.{inr, ⊎-elim}
+use mathlib.Core.Path.{_≡_, refl, subst, sym}
 use borrow.Author.Tests.{le-ltb, lt-ltb}
 use lib.Dec.{ltb}
 use lib.IntN.{ℤ}
 use lib.ListN.{length}
 use Rattle.plain.proofs.Entries.{entries-none}
-use Rattle.plain.proofs.Logic.{and-right, clash, either}
+use Rattle.plain.proofs.Logic.{and-right, either}
 use Rattle.plain.proofs.Members.{kept-passes}
 use Rattle.plain.proofs.Turns.{times-keeps}
-use Rattle.plain.specs.Lists.{itself, keep, member, total}
+use Rattle.plain.specs.Lists.{keep, member, total}
 use Rattle.plain.specs.Turns.{entries}
-use Rattle.cells.proofs.Rows.{clipped-part}
 use Rattle.cells.proofs.Fields.{rd-null}
 use Rattle.cells.proofs.Slices.{split}
 use Rattle.cells.specs.Layout.{W}
 use Rattle.cells.specs.View.{at, rd, wr}
 use Rattle.packed.specs.Places.{Space}
-use Rattle.trimming.specs.Model.{Keeping, absorbed, counted, keeping, keptElement, keptElements, keptEntry, keptLive, nothing, swallows}
+use Rattle.trimming.specs.Model.{Keeping, absorbed, counted, keeping, keptElement, keptElements, keptEntry, nothing, swallows}
 use Rattle.trimming.proofs.Filtering.{Left, keep-no-more, keep-one-more, left-more, left-same}
 use Rattle.trimming.proofs.Freeing.{Freed, freed-again, freed-more, freed-none}
 use Rattle.trimming.proofs.Steps.{element-no, element-yes, live-no, live-yes}
@@ -35,7 +34,7 @@ abbrev pub goes : Bool → ℕ → ℕ → Bool
 goes aggressive flag w = ltb 0 w && swallows aggressive flag w
 
 module _ (n me flag : ℕ) (aggressive : Bool) (X : ℕ → List ℕ) (l s : List ℤ) (cnt base lim : ℕ) (g : Space n X l s cnt base lim) (p len : ℕ)
-    (narrow : length l < 2 ^ 62) (fits : 0 < len → p + len ≤ length l) where
+    (fits : p + len ≤ length l) where
   abbrev st : ℕ → Bool
   st e = stays aggressive flag (rd n W s e)
 
@@ -46,11 +45,11 @@ module _ (n me flag : ℕ) (aggressive : Bool) (X : ℕ → List ℕ) (l s : Lis
   D e = rd n W s e - flag
 
   pub record Sifted (t : ℕ) (m : Keeping) : Type 0 where
-    pub left : Left D l p p 0 0 0 t (keep st (entries (at l) p t)) m
+    pub left : Left D l p p 0 0 t (keep st (entries (at l) p t)) m
     pub freed : Freed n me X l s cnt base lim (keep go (entries (at l) p t)) (m .mem)
 
   abbrev step : ℕ → Keeping → Keeping
-  step t m = keptElement n me flag aggressive (p + t) (p + m .kept .cnt) m
+  step t = keptElement n me flag aggressive (p + t)
 
   module _ (t : ℕ) (m : Keeping) (b : t < len) (h : Sifted t m) where
     abbrev x : ℕ
@@ -65,9 +64,9 @@ module _ (n me flag : ℕ) (aggressive : Bool) (X : ℕ → List ℕ) (l s : Lis
     -- neither kept nor taken up now
     pass : rd n W (m .mem) x ≤ 0 → st x ≡ false → Freed n me X l s cnt base lim (keep go (entries (at l) p (suc t))) (m .mem) → Sifted (suc t) (step t m)
     pass z off f =
-        subst (Sifted (suc t)) (element-no n me flag aggressive (p + t) (p + m .kept .cnt) (m .lists) (m .mem) (m .kept) x (rd n W (m .mem) x) refl refl z)
+        subst (Sifted (suc t)) (element-no n me flag aggressive (p + t) (m .lists) (m .mem) (m .kept) x (rd n W (m .mem) x) refl refl z)
         record {
-          left = rw (keep-no-more st (at l) p t x same off) (left-same D l p p 0 0 0 t (keep st es) m (h .left) (m .mem));
+          left = rw (keep-no-more st (at l) p t x same off) (left-same D l p p 0 0 t (keep st es) m (h .left) (m .mem));
           freed = f;
         }
 
@@ -105,11 +104,11 @@ module _ (n me flag : ℕ) (aggressive : Bool) (X : ℕ → List ℕ) (l s : Lis
             let on : go x ≡ true = rw (some, v) in
             let off : st x ≡ false = rw (some, v) in
             subst (Sifted (suc t))
-            (element-yes n me flag aggressive (p + t) (p + m .kept .cnt) (m .lists) (m .mem) (m .kept) x (rd n W s x) refl (sym mark)
+            (element-yes n me flag aggressive (p + t) (m .lists) (m .mem) (m .kept) x (rd n W s x) refl (sym mark)
             (keeping (m .lists) (absorbed n me x (m .mem)) (m .kept))
-            (live-no n me flag aggressive x (rd n W s x) (p + m .kept .cnt) (m .lists) (m .mem) (m .kept) true (sym v) (absorbed n me x (m .mem)) refl refl) z)
+            (live-no n me flag aggressive x (rd n W s x) (m .lists) (m .mem) (m .kept) true (sym v) (absorbed n me x (m .mem)) refl refl) z)
             record {
-              left = rw (keep-no-more st (at l) p t x same off) (left-same D l p p 0 0 0 t (keep st es) m (h .left) (absorbed n me x (m .mem)));
+              left = rw (keep-no-more st (at l) p t x same off) (left-same D l p p 0 0 t (keep st es) m (h .left) (absorbed n me x (m .mem)));
               freed = rw (keep-one-more go (at l) p t x same on) (freed-more n me X l s cnt base lim (keep go es) (m .mem) (h .freed) x below);
             }
 
@@ -118,14 +117,13 @@ module _ (n me flag : ℕ) (aggressive : Bool) (X : ℕ → List ℕ) (l s : Lis
         kept v =
             let off : go x ≡ false = rw (some, v) in
             let on : st x ≡ true = rw (some, v) in
-            let to : p + m .kept .cnt ≡ p + length (keep st es) = omega (arith, h .left .count) in
             subst (Sifted (suc t))
-            (element-yes n me flag aggressive (p + t) (p + m .kept .cnt) (m .lists) (m .mem) (m .kept) x (rd n W s x) refl (sym mark)
-            (keptEntry x (p + m .kept .cnt) (D x) m)
-            (live-yes n me flag aggressive x (rd n W s x) (p + m .kept .cnt) (m .lists) (m .mem) (m .kept) false (sym v) (D x) (wr (m .lists) (p + m .kept .cnt) x) (counted x (D x) (m .kept)) refl refl refl refl) z)
+            (element-yes n me flag aggressive (p + t) (m .lists) (m .mem) (m .kept) x (rd n W s x) refl (sym mark)
+            (keptEntry x (D x) m)
+            (live-yes n me flag aggressive x (rd n W s x) (m .lists) (m .mem) (m .kept) false (sym v) (D x) (wr (m .lists) (m .kept .end) x) (counted x (D x) (m .kept)) refl refl refl refl) z)
             record {
               left = rw (keep-one-more st (at l) p t x same on)
-                  (left-more D l p p 0 0 0 t (keep st es) m (h .left) x (p + m .kept .cnt) (omega arith) (omega (arith, fits (omega arith))) (omega (arith, fits (omega arith))) to);
+                  (left-more D l p p 0 0 t (keep st es) m (h .left) x (omega arith) (omega arith));
               freed = rw (keep-no-more go (at l) p t x same off) (h .freed);
             }
 
@@ -138,13 +136,13 @@ module _ (n me flag : ℕ) (aggressive : Bool) (X : ℕ → List ℕ) (l s : Lis
     turn : Sifted (suc t) (step t m)
     turn = either (Sifted (suc t) (step t m)) (member x (keep go es)) known fresh
 
-  begun : Sifted 0 (keeping l s nothing)
+  begun : Sifted 0 (keeping l s (nothing p))
   unfolding keep total
   begun =
       record {
         left = rw (entries-none (at l) p)
             record {
-              count = refl;
+              end = omega arith;
               here = entries-none (at l) p;
               few = omega arith;
               rest = λ q o. refl;
@@ -158,5 +156,4 @@ module _ (n me flag : ℕ) (aggressive : Bool) (X : ℕ → List ℕ) (l s : Lis
   -- THE elements of a row
   pub elements-sifted : Sifted len (keptElements n me flag aggressive p len l s)
   unfolding keptElements
-  elements-sifted =
-      rw (clipped-part (length l) p len fits) (times-keeps Sifted step len (λ t m b h. turn t m b h) len (keeping l s nothing) (omega arith) begun)
+  elements-sifted = times-keeps Sifted step len (λ t m b h. turn t m b h) len (keeping l s (nothing p)) (omega arith) begun

@@ -13,8 +13,8 @@ use Rattle.plain.proofs.Entries.{entries-same, entries-snoc}
 use Rattle.plain.proofs.Sums.{total-append, total-one}
 use Rattle.plain.specs.Lists.{consIf, itself, keep, total}
 use Rattle.plain.specs.Turns.{entries}
-use Rattle.cells.proofs.Slices.{at-wr-other, at-wr-same, length-wr, plus-sum}
-use Rattle.cells.specs.View.{at, plus, wr}
+use Rattle.cells.proofs.Slices.{at-wr-other, at-wr-same, length-wr}
+use Rattle.cells.specs.View.{at, wr}
 use Rattle.trimming.specs.Model.{Keeping, counted, keeping, keptEntry, wrapped}
 
 -- a sum that a word holds
@@ -40,9 +40,9 @@ pub keep-no-more : (w : ℕ → Bool) (F : ℕ → ℕ) (p t x : ℕ) → x ≡ 
 keep-no-more w F p t x e h =
     ap (keep w) (entries-snoc F p t) ∙ keep-snoc w (entries F p t) (F (p + t)) ∙ rw (← e, h) (append-nil (keep w (entries F p t)))
 
--- Of the cells from `from` on t are read. ys is kept, from b on and behind c others; d and z are the sums before. D is the size of an entry.
-pub record Left (D : ℕ → ℕ) (l : List ℤ) (b from c d z t : ℕ) (ys : List ℕ) (m : Keeping) : Type 0 where
-  pub count : m .kept .cnt ≡ c + length ys
+-- Of the cells from `from` on t are read. ys is kept, from b on; d and z are the sums before. D is the size of an entry.
+pub record Left (D : ℕ → ℕ) (l : List ℤ) (b from d z t : ℕ) (ys : List ℕ) (m : Keeping) : Type 0 where
+  pub end : m .kept .end ≡ b + length ys
   pub here : entries (at (m .lists)) b (length ys) ≡ ys
   pub few : length ys ≤ t
   pub rest : (q : ℕ) → (q < b) ⊎ (from + t ≤ q) → at (m .lists) q ≡ at l q
@@ -50,11 +50,11 @@ pub record Left (D : ℕ → ℕ) (l : List ℤ) (b from c d z t : ℕ) (ys : Li
   pub deg : d + total D ys < 2 ^ 63 → m .kept .deg ≡ d + total D ys
   pub sum : z + total itself ys < 2 ^ 63 → m .kept .sum ≡ z + total itself ys
 
-module _ (D : ℕ → ℕ) (l : List ℤ) (b from c d z t : ℕ) (ys : List ℕ) (m : Keeping) (h : Left D l b from c d z t ys m) where
+module _ (D : ℕ → ℕ) (l : List ℤ) (b from d z t : ℕ) (ys : List ℕ) (m : Keeping) (h : Left D l b from d z t ys m) where
   -- the next is kept
-  pub left-more : (x to : ℕ) → b ≤ from → from + t < length l → c + t < 2 ^ 62 → to ≡ b + length ys → Left D l b from c d z (suc t) (ys ++ (x ∷ [])) (keptEntry x to (D x) m)
+  pub left-more : (x : ℕ) → b ≤ from → from + t < length l → Left D l b from d z (suc t) (ys ++ (x ∷ [])) (keptEntry x (D x) m)
   unfolding keptEntry counted
-  left-more x to lo hi small e =
+  left-more x lo hi =
       let k = length ys in
       let len : length (ys ++ (x ∷ [])) ≡ suc k = length-append ys (x ∷ []) ∙ omega arith in
       let td : total D (ys ++ (x ∷ [])) ≡ total D ys + D x = total-append D ys (x ∷ []) ∙ ap (λ (y : ℕ). total D ys + y) (total-one D x) in
@@ -62,9 +62,9 @@ module _ (D : ℕ → ℕ) (l : List ℤ) (b from c d z t : ℕ) (ys : List ℕ)
       let old : entries (at (wr (m .lists) (b + k) x)) b k ≡ entries (at (m .lists)) b k =
       entries-same (at (m .lists)) (at (wr (m .lists) (b + k) x)) b b k (λ i a. at-wr-other (m .lists) (b + k) x (b + i) (λ u. absurd (omega arith))) in
       let new : at (wr (m .lists) (b + k) x) (b + k) ≡ x = at-wr-same (m .lists) (b + k) x (omega (arith, h .long, h .few)) in
-      rw e
+      rw (h .end)
       record {
-        count = plus-sum (m .kept .cnt) 1 (omega (arith, h .count, h .few)) ∙ omega (arith, h .count, len);
+        end = omega (arith, len);
         here = rw len (entries-snoc (at (wr (m .lists) (b + k) x)) b k ∙ rw (old, new) (ap (λ (y : List ℕ). y ++ (x ∷ [])) (h .here)));
         few = omega (arith, h .few, len);
         rest = λ q o. at-wr-other (m .lists) (b + k) x q (λ u. absurd (⊎-elim (λ a. omega arith) (λ a. omega (arith, h .few)) o))
@@ -75,10 +75,10 @@ module _ (D : ℕ → ℕ) (l : List ℤ) (b from c d z t : ℕ) (ys : List ℕ)
       }
 
   -- the next is not kept; the scratch may change
-  pub left-same : (s : List ℤ) → Left D l b from c d z (suc t) ys (keeping (m .lists) s (m .kept))
+  pub left-same : (s : List ℤ) → Left D l b from d z (suc t) ys (keeping (m .lists) s (m .kept))
   left-same s =
       record {
-        count = h .count;
+        end = h .end;
         here = h .here;
         few = omega (arith, h .few);
         rest = λ q o. h .rest q (⊎-elim (λ a. inl a) (λ a. inr (omega arith)) o);

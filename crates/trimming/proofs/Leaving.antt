@@ -33,7 +33,7 @@ use Rattle.trimming.proofs.Massing.{Massed}
 use Rattle.trimming.proofs.Refinement.{refined-goes}
 use Rattle.trimming.proofs.Sifting.{goneE, keptE}
 
-module _ (n me flag : ℕ) (aggressive : Bool) (X E U : ℕ → List ℕ) (l s : List ℤ) (cnt base lim made : ℕ) (narrow : length l < 2 ^ 62) (hm : me < n) (small : n < 2 ^ 63)
+module _ (n me flag : ℕ) (aggressive : Bool) (X E U : ℕ → List ℕ) (l s : List ℤ) (cnt base lim made : ℕ) (hm : me < n) (small : n < 2 ^ 63)
     (new : List ℕ) (i : ℕ) (d : Due n me flag aggressive X E U s new i) (m : Trimming) (h : Done n me flag aggressive X E U l s cnt base lim made new m)
     (nil : kept n me flag aggressive s E U i ≤ 0) where
   abbrev r : Trimming
@@ -62,7 +62,7 @@ module _ (n me flag : ℕ) (aggressive : Bool) (X E U : ℕ → List ℕ) (l s :
       let vs = same-vs n me flag aggressive X E U l s cnt base lim made new i d m h in
       let y : listed n me flag aggressive s E U i ≡ [] = rw (le-ltb 0 (kept n me flag aggressive s E U i) nil) in
       rw y
-      (refined-goes n me flag aggressive (listsAfter n me flag aggressive X E U s new) (m .lists) (m .mem) cnt base lim (h .space) (omega (arith, h .long)) i (E i) (U i)
+      (refined-goes n me flag aggressive (listsAfter n me flag aggressive X E U s new) (m .lists) (m .mem) cnt base lim (h .space) i (E i) (U i)
       (held n me flag aggressive X E U l s cnt base lim made new i d m h) (elen-now n me flag aggressive X E U l s cnt base lim made new i d m h) (d .fine .inside) hm (d .differ)
       (apart n me flag aggressive X E U l s cnt base lim made new i d m h) (m .merged) (own-place n me flag aggressive X E U l s cnt base lim made new i d m h)
       (rw (es, vs) nil))

@@ -1,12 +1,12 @@
 -- A row that keeps something: its list, its counts, its degree, and the front of its bucket.
 -- Assumes nothing.
-use Prim.Native.Nat.{_+_, _<_, _^_, _≤_, min, suc, ℕ}
+use Prim.Native.Nat.{_+_, _-_, _<_, _^_, _≤_, min, suc, ℕ}
 use native.Mathlib.Nat.{le-of-lt, min-eq-left, min-eq-right}
 use native.Mathlib.Omega.{arith}
-use mathlib.Core.Bool.{Bool, false, true}
+use mathlib.Core.Bool.{false, true}
 use mathlib.Core.List.{List, _++_, _∷_}
 use mathlib.Core.Logic.{_≢_, _⊎_, inl, inr, ⊎-elim}
-use mathlib.Core.Path.{_∙_, _≡_, ap, refl, subst, sym}
+use mathlib.Core.Path.{_∙_, _≡_, ap, refl, sym}
 use borrow.Author.Tests.{le-ltb, lt-ltb}
 use lib.Dec.{eqb, ltb}
 use lib.IntN.{ℤ}
@@ -15,16 +15,16 @@ use Rattle.plain.proofs.Logic.{clash}
 use Rattle.plain.specs.Lists.{member, rotate}
 use Rattle.plain.specs.Turns.{entries, upd}
 use Rattle.cells.proofs.Laws.{mem, parent-up-field, rd-up-cell, rd-up-field, rd-up-hit, room-yes, roomy-up}
-use Rattle.cells.proofs.Slices.{plus-sum, split}
+use Rattle.cells.proofs.Slices.{split}
 use Rattle.cells.specs.Layout.{DEGREE, ELEN, HHEAD, HKEY, HNEXT, LEN, PE, W}
 use Rattle.cells.specs.Links.{named, parent}
-use Rattle.cells.specs.View.{at, plus, rd, roomy, up}
+use Rattle.cells.specs.View.{at, rd, roomy, up}
 use Rattle.packed.proofs.Spaces.{space-field, space-rewritten}
 use Rattle.packed.specs.Places.{Space}
 use Rattle.trimming.specs.Model.{Keeping, keyOf, keyed, lowered, relisted, sized, turned}
-use Rattle.trimming.proofs.Freeing.{Freed, without}
+use Rattle.trimming.proofs.Freeing.{without}
 use Rattle.trimming.proofs.Rounding.{turned-list, turned-long, turned-rest}
-use Rattle.trimming.proofs.Sifting.{Row, numbers, sizes}
+use Rattle.trimming.proofs.Sifting.{Row, sizes}
 
 -- ---- the degree
 
@@ -78,7 +78,7 @@ pub record Stayed (n me flag i k : ℕ) (s : List ℤ) (gone es vs : List ℕ) (
   pub taken : (x : ℕ) → member x gone ≡ true → (rd n W s′ x ≡ 0) × (rd n LEN s′ x ≡ 0) × (parent n s′ x ≡ named n me)
 
 module _ (n me flag : ℕ) (X : ℕ → List ℕ) (l s : List ℤ) (cnt base lim i : ℕ) (gone es vs : List ℕ) (m : Keeping) (h : Row n me flag X l s cnt base lim i gone es vs m)
-    (hi : i < n) (apart : member i gone ≡ false) (narrow : length l < 2 ^ 62)
+    (hi : i < n) (apart : member i gone ≡ false)
     (place : rd n PE s i + rd n LEN s i ≤ length l) (own : length es + length vs < rd n LEN s i) (some : 0 < length es + length vs) where
   abbrev c : ℕ
   c = length es + length vs
@@ -87,7 +87,7 @@ module _ (n me flag : ℕ) (X : ℕ → List ℕ) (l s : List ℤ) (cnt base lim
   s₁ = m .mem
 
   abbrev l′ : List ℤ
-  l′ = turned me (rd n PE s₁ i) (m .kept .elements) (m .kept .cnt) (m .lists)
+  l′ = turned me (rd n PE s i) (m .kept .elements) (m .kept .end) (m .lists)
 
   abbrev list : List ℕ
   list = me ∷ (rotate es ++ rotate vs)
@@ -98,8 +98,8 @@ module _ (n me flag : ℕ) (X : ℕ → List ℕ) (l s : List ℤ) (cnt base lim
   len : rd n LEN s₁ i ≡ rd n LEN s i
   len = h .freed .others LEN i apart
 
-  turned-is : l′ ≡ turned me (rd n PE s i) (length es) c (m .lists)
-  turned-is = rw (pe, h .elements, h .count)
+  turned-is : l′ ≡ turned me (rd n PE s i) (rd n PE s i + length es) (rd n PE s i + c) (m .lists)
+  turned-is = rw (h .elements, h .end)
 
   fits : rd n PE s i + c < length (m .lists)
   fits = omega (arith, h .long)
@@ -115,21 +115,28 @@ module _ (n me flag : ℕ) (X : ℕ → List ℕ) (l s : List ℤ) (cnt base lim
   pub long-is : length l′ ≡ length l
   long-is = rw turned-is (turned-long me (rd n PE s i) (length es) (length vs) (m .lists) some fits) ∙ h .long
 
+  -- the new counts
+  abbrev ne : ℕ
+  ne = m .kept .elements - rd n PE s i + 1
+
+  abbrev nc : ℕ
+  nc = m .kept .end - rd n PE s i + 1
+
   abbrev a : List ℤ
-  a = up n ELEN s₁ i (plus (m .kept .elements) 1)
+  a = up n ELEN s₁ i ne
 
   abbrev b : List ℤ
-  b = up n LEN a i (plus (m .kept .cnt) 1)
+  b = up n LEN a i nc
 
-  count-is : plus (m .kept .cnt) 1 ≡ suc c
-  count-is = plus-sum (m .kept .cnt) 1 (omega (arith, h .count)) ∙ omega (arith, h .count)
+  count-is : nc ≡ suc c
+  count-is = omega (arith, h .end)
 
   space-b : Space n (upd (without gone X) i list) l′ b cnt base lim
   space-b =
-      let e : rd n PE a i ≡ rd n PE s i = rd-up-field n ELEN PE s₁ i (plus (m .kept .elements) 1) i refl ∙ pe in
-      let f : rd n LEN a i ≡ rd n LEN s i = rd-up-field n ELEN LEN s₁ i (plus (m .kept .elements) 1) i refl ∙ len in
-      space-rewritten n (without gone X) l a cnt base lim (space-field n (without gone X) l s₁ cnt base lim (h .freed .space) ELEN i (plus (m .kept .elements) 1) refl refl refl)
-      i hi l′ (plus (m .kept .cnt) 1) list (omega (arith, count-is, f)) long-is
+      let e : rd n PE a i ≡ rd n PE s i = rd-up-field n ELEN PE s₁ i ne i refl ∙ pe in
+      let f : rd n LEN a i ≡ rd n LEN s i = rd-up-field n ELEN LEN s₁ i ne i refl ∙ len in
+      space-rewritten n (without gone X) l a cnt base lim (space-field n (without gone X) l s₁ cnt base lim (h .freed .space) ELEN i ne refl refl refl)
+      i hi l′ nc list (omega (arith, count-is, f)) long-is
       (λ q o. rest-is q (⊎-elim (λ z. inl (omega (arith, e))) (λ z. inr (omega (arith, e, f))) o))
       (rw (e, count-is) list-is)
 
@@ -137,7 +144,7 @@ module _ (n me flag : ℕ) (X : ℕ → List ℕ) (l s : List ℤ) (cnt base lim
   k = keyOf n (m .kept .sum)
 
   -- THE memory of a row that stays
-  pub row-stays : Space n (upd (without gone X) i list) l′ (relisted n i (m .kept) s₁) cnt base lim
+  pub row-stays : Space n (upd (without gone X) i list) l′ (relisted n i (rd n PE s i) (m .kept) s₁) cnt base lim
   unfolding relisted sized keyed
   row-stays =
       let d = lowered n i (m .kept .deg) b in
@@ -164,7 +171,7 @@ module _ (n me flag : ℕ) (X : ℕ → List ℕ) (l s : List ℤ) (cnt base lim
   inside : ltb i n ≡ true
   inside = lt-ltb i n hi
 
-  elen-is : rd n ELEN e₃ i ≡ plus (m .kept .elements) 1
+  elen-is : rd n ELEN e₃ i ≡ ne
   elen-is = simp (mem, lowered-field, room, inside)
 
   key-is : rd n HKEY e₃ i ≡ k
@@ -172,8 +179,8 @@ module _ (n me flag : ℕ) (X : ℕ → List ℕ) (l s : List ℤ) (cnt base lim
 
   old-head : (x : ℕ) → rd n HHEAD d x ≡ rd n HHEAD s x
   old-head x =
-      lowered-field n i (m .kept .deg) b HHEAD x refl ∙ rd-up-field n LEN HHEAD a i (plus (m .kept .cnt) 1) x refl
-      ∙ rd-up-field n ELEN HHEAD s₁ i (plus (m .kept .elements) 1) x refl ∙ h .freed .fields HHEAD x refl refl refl
+      lowered-field n i (m .kept .deg) b HHEAD x refl ∙ rd-up-field n LEN HHEAD a i nc x refl
+      ∙ rd-up-field n ELEN HHEAD s₁ i ne x refl ∙ h .freed .fields HHEAD x refl refl refl
 
   next-is : rd n HNEXT e₃ i ≡ rd n HHEAD d k
   next-is = simp (mem, lowered-field, lowered-roomy, room, inside)
@@ -189,7 +196,7 @@ module _ (n me flag : ℕ) (X : ℕ → List ℕ) (l s : List ℤ) (cnt base lim
 
   degree-old : rd n DEGREE b i ≡ rd n DEGREE s i
   degree-old =
-      rd-up-field n LEN DEGREE a i (plus (m .kept .cnt) 1) i refl ∙ rd-up-field n ELEN DEGREE s₁ i (plus (m .kept .elements) 1) i refl
+      rd-up-field n LEN DEGREE a i nc i refl ∙ rd-up-field n ELEN DEGREE s₁ i ne i refl
       ∙ h .freed .fields DEGREE i refl refl refl
 
   room-b : roomy n b ≡ true
@@ -212,11 +219,11 @@ module _ (n me flag : ℕ) (X : ℕ → List ℕ) (l s : List ℤ) (cnt base lim
   other x u y = clash (member i gone) (ap (λ (z : ℕ). member z gone) y ∙ u) apart
 
   -- THE fields of a row that stays
-  pub row-stayed : Stayed n me flag i k s gone es vs (relisted n i (m .kept) s₁)
+  pub row-stayed : Stayed n me flag i k s gone es vs (relisted n i (rd n PE s i) (m .kept) s₁)
   unfolding relisted sized keyed
   row-stayed =
       record {
-        elen = elen-is ∙ plus-sum (m .kept .elements) 1 (omega (arith, h .elements)) ∙ omega (arith, h .elements);
+        elen = elen-is ∙ omega (arith, h .elements);
         degree = degree-is;
         key = key-is;
         next = next-is ∙ old-head k;
@@ -224,16 +231,16 @@ module _ (n me flag : ℕ) (X : ℕ → List ℕ) (l s : List ℤ) (cnt base lim
         heads = λ x z. heads-are x z ∙ old-head x;
         others = λ f x u z w.
             rd-up-cell n HKEY f e₂ i k x z ∙ rd-up-field n HHEAD f e₁ k i x u ∙ rd-up-cell n HNEXT f d i (rd n HHEAD d k) x z ∙ lowered-cell n i (m .kept .deg) b f x z
-            ∙ rd-up-cell n LEN f a i (plus (m .kept .cnt) 1) x z ∙ rd-up-cell n ELEN f s₁ i (plus (m .kept .elements) 1) x z ∙ h .freed .others f x w;
+            ∙ rd-up-cell n LEN f a i nc x z ∙ rd-up-cell n ELEN f s₁ i ne x z ∙ h .freed .others f x w;
         fields = λ f x t0 t1 t5 t3 t4 t9 t10 t11.
             rd-up-field n HKEY f e₂ i k x t11 ∙ rd-up-field n HHEAD f e₁ k i x t9 ∙ rd-up-field n HNEXT f d i (rd n HHEAD d k) x t10 ∙ lowered-field n i (m .kept .deg) b f x t4
-            ∙ rd-up-field n LEN f a i (plus (m .kept .cnt) 1) x t1 ∙ rd-up-field n ELEN f s₁ i (plus (m .kept .elements) 1) x t3 ∙ h .freed .fields f x t0 t1 t5;
+            ∙ rd-up-field n LEN f a i nc x t1 ∙ rd-up-field n ELEN f s₁ i ne x t3 ∙ h .freed .fields f x t0 t1 t5;
         apart = λ f x t0 t1 t5 t9 z.
             rd-up-cell n HKEY f e₂ i k x z ∙ rd-up-field n HHEAD f e₁ k i x t9 ∙ rd-up-cell n HNEXT f d i (rd n HHEAD d k) x z ∙ lowered-cell n i (m .kept .deg) b f x z
-            ∙ rd-up-cell n LEN f a i (plus (m .kept .cnt) 1) x z ∙ rd-up-cell n ELEN f s₁ i (plus (m .kept .elements) 1) x z ∙ h .freed .fields f x t0 t1 t5;
+            ∙ rd-up-cell n LEN f a i nc x z ∙ rd-up-cell n ELEN f s₁ i ne x z ∙ h .freed .fields f x t0 t1 t5;
         marks = λ x w. mark-up x ∙ h .freed .others W x w;
         kin = λ x w.
             parent-up-field n HKEY e₂ i k x refl ∙ parent-up-field n HHEAD e₁ k i x refl ∙ parent-up-field n HNEXT d i (rd n HHEAD d k) x refl ∙ lowered-kin n i (m .kept .deg) b x
-            ∙ parent-up-field n LEN a i (plus (m .kept .cnt) 1) x refl ∙ parent-up-field n ELEN s₁ i (plus (m .kept .elements) 1) x refl ∙ h .freed .kin x w;
+            ∙ parent-up-field n LEN a i nc x refl ∙ parent-up-field n ELEN s₁ i ne x refl ∙ h .freed .kin x w;
         taken = λ x u. (mark-up x ∙ h .freed .marks x u, len-up x (other x u) ∙ h .freed .lens x u, link-up x ∙ h .freed .links x u);
       }

@@ -2,15 +2,15 @@
 -- Assumes nothing.
 use Prim.Native.Nat.{_+_, _<_, _≤_, zero, suc, ℕ}
 use native.Mathlib.Omega.{arith}
-use mathlib.Core.List.{List, [], _++_, _∷_}
-use mathlib.Core.Logic.{_≢_, _⊎_, inl, inr, ⊎-elim}
-use mathlib.Core.Path.{_∙_, _≡_, ap, refl, sym}
+use mathlib.Core.List.{List, _++_, _∷_}
+use mathlib.Core.Logic.{_≢_, _⊎_, ⊎-elim}
+use mathlib.Core.Path.{_∙_, _≡_, ap, refl}
 use lib.IntN.{ℤ}
 use lib.ListN.{length}
 use Rattle.plain.proofs.Entries.{entries-append, entries-cons, entries-none, entries-same, entries-snoc}
 use Rattle.plain.specs.Lists.{rotate}
 use Rattle.plain.specs.Turns.{entries}
-use Rattle.cells.proofs.Slices.{at-wr-other, at-wr-same, length-wr, same?}
+use Rattle.cells.proofs.Slices.{at-wr-other, at-wr-same, length-wr}
 use Rattle.cells.specs.View.{at, wr}
 use Rattle.trimming.specs.Model.{turned}
 
@@ -67,11 +67,11 @@ module _ (me p a b : ℕ) (l : List ℤ) (some : 0 < a + b) (fits : p + (a + b) 
       (λ j c. let e : suc p + a + j ≡ p + (a + b) = omega arith in rw e (last (omega arith)))
 
   -- THE list
-  pub turned-list : entries (at (turned me p a (a + b) l)) p (suc (a + b)) ≡ me ∷ (rotate (entries (at l) p a) ++ rotate (entries (at l) (p + a) b))
+  pub turned-list : entries (at (turned me p (p + a) (p + (a + b)) l)) p (suc (a + b)) ≡ me ∷ (rotate (entries (at l) p a) ++ rotate (entries (at l) (p + a) b))
   unfolding turned
   turned-list = entries-cons (at l₃) p (a + b) ∙ rw (front, entries-append (at l₃) (suc p) a b, first-part, second-part)
 
-  pub turned-rest : (q : ℕ) → (q < p) ⊎ (p + suc (a + b) ≤ q) → at (turned me p a (a + b) l) q ≡ at l q
+  pub turned-rest : (q : ℕ) → (q < p) ⊎ (p + suc (a + b) ≤ q) → at (turned me p (p + a) (p + (a + b)) l) q ≡ at l q
   unfolding turned
   turned-rest q o =
       still q
@@ -79,6 +79,6 @@ module _ (me p a b : ℕ) (l : List ℤ) (some : 0 < a + b) (fits : p + (a + b) 
       (λ e. absurd (⊎-elim (λ c. omega arith) (λ c. omega arith) o))
       (λ e. absurd (⊎-elim (λ c. omega arith) (λ c. omega arith) o))
 
-  pub turned-long : length (turned me p a (a + b) l) ≡ length l
+  pub turned-long : length (turned me p (p + a) (p + (a + b)) l) ≡ length l
   unfolding turned
   turned-long = length-wr l₂ p me ∙ length-wr l₁ (p + a) (at l₁ p) ∙ length-wr l (p + (a + b)) (at l (p + a))

@@ -2,7 +2,7 @@
 -- Assumes nothing.
 use Prim.Native.Nat.{_+_, _-_, _<_, _^_, _≤_, ℕ}
 use native.Mathlib.Omega.{arith}
-use mathlib.Core.Bool.{Bool, false}
+use mathlib.Core.Bool.{Bool}
 use mathlib.Core.List.{List, _++_}
 use mathlib.Core.Logic.{_⊎_, inl, inr, ⊎-elim}
 use mathlib.Core.Path.{_∙_, _≡_, ap, refl, subst, sym}
@@ -13,14 +13,12 @@ use lib.Seq.{drop-append-seam, take-append-seam}
 use Rattle.plain.proofs.Entries.{entries-drop, entries-same, entries-take}
 use Rattle.plain.proofs.Members.{keep-same}
 use Rattle.plain.proofs.Sums.{total-members}
-use Rattle.plain.specs.Lists.{itself, keep, member, total}
+use Rattle.plain.specs.Lists.{itself, keep, total}
 use Rattle.plain.specs.Turns.{entries}
-use Rattle.cells.proofs.Slices.{plus-sum}
 use Rattle.cells.specs.Layout.{ELEN, LEN, PE, W, WANT}
-use Rattle.cells.specs.View.{at, plus, rd}
+use Rattle.cells.specs.View.{at, rd}
 use Rattle.packed.proofs.Frame.{ends, len-of}
 use Rattle.packed.specs.Places.{Space, places}
-use Rattle.packed.specs.Tray.{ownPart}
 use Rattle.trimming.specs.Model.{Keeping, keptAll, keptElements, keptVariables}
 use Rattle.trimming.proofs.Dropping.{Sifted, elements-sifted, goes, stays}
 use Rattle.trimming.proofs.Filtering.{Left}
@@ -46,8 +44,8 @@ numbers es vs = total itself es + total itself vs
 
 -- the memory m, with es and vs kept and `gone` taken up
 pub record Row (n me flag : ℕ) (X : ℕ → List ℕ) (l s : List ℤ) (cnt base lim i : ℕ) (gone es vs : List ℕ) (m : Keeping) : Type 0 where
-  pub elements : m .kept .elements ≡ length es
-  pub count : m .kept .cnt ≡ length es + length vs
+  pub elements : m .kept .elements ≡ rd n PE s i + length es
+  pub end : m .kept .end ≡ rd n PE s i + (length es + length vs)
   pub deg : sizes n flag s es vs < 2 ^ 63 → m .kept .deg ≡ sizes n flag s es vs
   pub sum : numbers es vs < 2 ^ 63 → m .kept .sum ≡ numbers es vs
   pub first : entries (at (m .lists)) (rd n PE s i) (length es) ≡ es
@@ -56,7 +54,7 @@ pub record Row (n me flag : ℕ) (X : ℕ → List ℕ) (l s : List ℤ) (cnt ba
   pub long : length (m .lists) ≡ length l
   pub freed : Freed n me X l s cnt base lim gone (m .mem)
 
-module _ (n me flag : ℕ) (aggressive : Bool) (X : ℕ → List ℕ) (l s : List ℤ) (cnt base lim : ℕ) (g : Space n X l s cnt base lim) (narrow : length l < 2 ^ 62)
+module _ (n me flag : ℕ) (aggressive : Bool) (X : ℕ → List ℕ) (l s : List ℤ) (cnt base lim : ℕ) (g : Space n X l s cnt base lim)
     (i : ℕ) (E U : List ℕ) (list : X i ≡ E ++ U) (elen : rd n ELEN s i ≡ length E) (some : 0 < length E + length U) where
   abbrev p : ℕ
   p = rd n PE s i
@@ -79,8 +77,8 @@ module _ (n me flag : ℕ) (aggressive : Bool) (X : ℕ → List ℕ) (l s : Lis
   abbrev m₁ : Keeping
   m₁ = keptElements n me flag aggressive p (length E) l s
 
-  sifted : Sifted n me flag aggressive X l s cnt base lim g p (length E) narrow (λ z. omega (arith, inside-l)) (length E) m₁
-  sifted = elements-sifted n me flag aggressive X l s cnt base lim g p (length E) narrow (λ z. omega (arith, inside-l))
+  sifted : Sifted n me flag aggressive X l s cnt base lim g p (length E) (omega (arith, inside-l)) (length E) m₁
+  sifted = elements-sifted n me flag aggressive X l s cnt base lim g p (length E) (omega (arith, inside-l))
 
   abbrev kE : List ℕ
   kE = keptE n flag aggressive s E
@@ -88,8 +86,8 @@ module _ (n me flag : ℕ) (aggressive : Bool) (X : ℕ → List ℕ) (l s : Lis
   abbrev kV : List ℕ
   kV = keptV n s U
 
-  left₁ : Left (λ e. rd n W s e - flag) l p p 0 0 0 (length E) kE m₁
-  left₁ = subst (λ (y : List ℕ). Left (λ e. rd n W s e - flag) l p p 0 0 0 (length E) (keptE n flag aggressive s y) m₁) has-E (sifted .left)
+  left₁ : Left (λ e. rd n W s e - flag) l p p 0 0 (length E) kE m₁
+  left₁ = subst (λ (y : List ℕ). Left (λ e. rd n W s e - flag) l p p 0 0 (length E) (keptE n flag aggressive s y) m₁) has-E (sifted .left)
 
   freed₁ : Freed n me X l s cnt base lim (goneE n flag aggressive s E) (m₁ .mem)
   freed₁ = subst (λ (y : List ℕ). Freed n me X l s cnt base lim (goneE n flag aggressive s y) (m₁ .mem)) has-E (sifted .freed)
@@ -108,30 +106,29 @@ module _ (n me flag : ℕ) (aggressive : Bool) (X : ℕ → List ℕ) (l s : Lis
   same-total = total-members (rd n WANT (m₁ .mem)) (rd n WANT s) kV (λ v c. wants v)
 
   abbrev m₂ : Keeping
-  m₂ = keptVariables n p (p + length E) (length U) m₁
+  m₂ = keptVariables n (p + length E) (length U) m₁
 
   abbrev L₂ : List ℕ → Type 0
-  L₂ ys = Left (rd n WANT (m₁ .mem)) (m₁ .lists) (p + m₁ .kept .cnt) (p + length E) (m₁ .kept .cnt) (m₁ .kept .deg) (m₁ .kept .sum) (length U) ys m₂
+  L₂ ys = Left (rd n WANT (m₁ .mem)) (m₁ .lists) (m₁ .kept .end) (p + length E) (m₁ .kept .deg) (m₁ .kept .sum) (length U) ys m₂
 
-  picked : L₂ (keptV n (m₁ .mem) (entries (at (m₁ .lists)) (p + length E) (length U))) × (m₂ .mem ≡ m₁ .mem) × (m₂ .kept .elements ≡ m₁ .kept .cnt)
+  picked : L₂ (keptV n (m₁ .mem) (entries (at (m₁ .lists)) (p + length E) (length U))) × (m₂ .mem ≡ m₁ .mem) × (m₂ .kept .elements ≡ m₁ .kept .end)
   picked =
-      variables-picked n p (p + length E) (length U) (m₁ .lists) (m₁ .mem) (m₁ .kept) (omega (arith, left₁ .long))
-      (omega (arith, left₁ .count, left₁ .few)) (λ z. omega (arith, inside-l, left₁ .long))
+      variables-picked n (p + length E) (length U) (m₁ .lists) (m₁ .mem) (m₁ .kept) (omega (arith, left₁ .end, left₁ .few)) (omega (arith, inside-l, left₁ .long))
 
   left₂ : L₂ kV
   left₂ = subst L₂ same-kept (subst (λ (y : List ℕ). L₂ (keptV n (m₁ .mem) y)) has-U₁ (picked .0))
 
   row₂ : Row n me flag X l s cnt base lim i (goneE n flag aggressive s E) kE kV m₂
   row₂ =
-      let c = left₁ .count in
+      let c = left₁ .end in
       record {
-        elements = picked .2 ∙ omega (arith, c);
-        count = omega (arith, left₂ .count, c);
+        elements = picked .2 ∙ c;
+        end = omega (arith, left₂ .end, c);
         deg = λ f. let d : m₁ .kept .deg ≡ total (λ e. rd n W s e - flag) kE = left₁ .deg (omega arith) ∙ omega arith in
             left₂ .deg (omega (arith, same-total)) ∙ omega (arith, same-total);
         sum = λ f. let d : m₁ .kept .sum ≡ total itself kE = left₁ .sum (omega arith) ∙ omega arith in left₂ .sum (omega arith) ∙ omega arith;
         first = entries-same (at (m₁ .lists)) (at (m₂ .lists)) p p (length kE) (λ t z. left₂ .rest (p + t) (inl (omega (arith, c)))) ∙ left₁ .here;
-        second = subst (λ (y : ℕ). entries (at (m₂ .lists)) (p + y) (length kV) ≡ kV) (c ∙ omega arith) (left₂ .here);
+        second = subst (λ (y : ℕ). entries (at (m₂ .lists)) y (length kV) ≡ kV) c (left₂ .here);
         rest = λ q o. left₂ .rest q (⊎-elim (λ z. inl (omega arith)) (λ z. inr (omega (arith, whole))) o)
             ∙ left₁ .rest q (⊎-elim (λ z. inl z) (λ z. inr (omega (arith, whole))) o);
         long = left₂ .long ∙ left₁ .long;
@@ -139,9 +136,8 @@ module _ (n me flag : ℕ) (aggressive : Bool) (X : ℕ → List ℕ) (l s : Lis
       }
 
   -- THE list of a row
-  pub row-kept : Row n me flag X l s cnt base lim i (goneE n flag aggressive s E) kE kV (keptAll n me flag aggressive i l s)
-  unfolding keptAll ownPart
+  pub row-kept : Row n me flag X l s cnt base lim i (goneE n flag aggressive s E) kE kV (keptAll n me flag aggressive (rd n PE s i) (rd n ELEN s i) (rd n LEN s i) l s)
+  unfolding keptAll
   row-kept =
-      let f : plus p (rd n ELEN s i) ≡ p + length E = ap (plus p) elen ∙ plus-sum p (length E) (omega (arith, inside-l)) in
       let k : rd n LEN s i - rd n ELEN s i ≡ length U = omega (arith, whole, elen) in
-      rw (f, k, elen) row₂
+      rw (k, elen) row₂

@@ -30,7 +30,7 @@ use Rattle.trimming.proofs.Refinement.{refined-stays}
 use Rattle.trimming.proofs.Relisting.{Stayed}
 use Rattle.trimming.proofs.Sifting.{goneE, keptE, keptV, numbers, sizes}
 
-module _ (n me flag : ℕ) (aggressive : Bool) (X E U : ℕ → List ℕ) (l s : List ℤ) (cnt base lim made : ℕ) (narrow : length l < 2 ^ 62) (hm : me < n) (new : List ℕ) (i : ℕ)
+module _ (n me flag : ℕ) (aggressive : Bool) (X E U : ℕ → List ℕ) (l s : List ℤ) (cnt base lim made : ℕ) (hm : me < n) (new : List ℕ) (i : ℕ)
     (d : Due n me flag aggressive X E U s new i) (m : Trimming) (h : Done n me flag aggressive X E U l s cnt base lim made new m)
     (some : 0 < kept n me flag aggressive s E U i) where
   abbrev r : Trimming
@@ -63,7 +63,7 @@ module _ (n me flag : ℕ) (aggressive : Bool) (X E U : ℕ → List ℕ) (l s :
       × (r .merged ≡ m .merged)
       × (length (r .lists) ≡ length (m .lists))
   refined =
-      let q = refined-stays n me flag aggressive (listsAfter n me flag aggressive X E U s new) (m .lists) (m .mem) cnt base lim (h .space) (omega (arith, h .long)) i (E i) (U i)
+      let q = refined-stays n me flag aggressive (listsAfter n me flag aggressive X E U s new) (m .lists) (m .mem) cnt base lim (h .space) i (E i) (U i)
       (held n me flag aggressive X E U l s cnt base lim made new i d m h) (elen-now n me flag aggressive X E U l s cnt base lim made new i d m h) (d .fine .inside) hm (d .differ)
       (apart n me flag aggressive X E U l s cnt base lim made new i d m h) (m .merged) (own-place n me flag aggressive X E U l s cnt base lim made new i d m h)
       (rw (es, vs) some) (rw (es, vs) (d .fine .light)) in

@@ -5,42 +5,39 @@ use native.Mathlib.Omega.{arith}
 use native.Mathlib.Nat.{mod-lt}
 use mathlib.Core.Bool.{Bool, true, false, _&&_}
 use mathlib.Core.List.{List}
-use mathlib.Core.Path.{_≡_, ap, refl, _∙_}
-use borrow.Author.Tests.{le-ltb, lt-ltb, ne-eqb}
-use lib.Dec.{eqb}
+use mathlib.Core.Path.{_≡_, refl}
+use borrow.Author.Tests.{le-leb, le-ltb, lt-leb, lt-ltb, ne-eqb}
+use lib.Dec.{eqb, leb}
 use lib.IntN.{ℤ}
 use lib.ListN.{length}
 use Rattle.plain.proofs.Turns.{finish}
 use Rattle.plain.specs.Turns.{Turned}
-use Rattle.cells.proofs.Slices.{plus-sum}
 use Rattle.cells.specs.Layout.{PE, LEN, WANT, ELEN, DEGREE, W, HHEAD, HNEXT, HKEY, MERGES, NV}
 use Rattle.cells.specs.View.{at, plus, rd, up, wr}
 use Rattle.cells.specs.Rows.{clipped}
 use Rattle.cells.specs.Links.{named, hang}
-use Rattle.packed.specs.Tray.{ownPart}
-use Rattle.packed.specs.declared.Part.{Part}
 use Rattle.trimming.specs.declared.Kept.{Kept}
 use Rattle.trimming.specs.declared.Merged.{Merged}
-use Rattle.trimming.specs.Model.{Keeping, Trimming, absorbed, buried, counted, halfway, keeping, keptAll, keptElement, keptElements, keptEntry, keptLive, keptVariable, keptVariables, keyOf, keyed, lowered, massed, nothing, relisted, settled, sized, tookWeight, trimming, turned, updated, updatedAll, updatedAt, wrapped}
+use Rattle.trimming.specs.Model.{Keeping, Trimming, absorbed, buried, counted, halfway, keeping, keptAll, keptElement, keptElements, keptEntry, keptLive, keptVariable, keptVariables, keyOf, keyed, lowered, massed, nothing, relisted, renewed, settled, sized, tookWeight, trimming, turned, updated, updatedAll, updatedAt, wrapped}
 
 -- ---- what is kept
 
-pub count-step : (x size : ℕ) (k : Kept) (d t : ℕ) → d ≡ (k .deg + size) % 2 ^ 64 → t ≡ (k .sum + x) % 2 ^ 64 → k .cnt < 2 ^ 62
-    → record { elements = k .elements; cnt = k .cnt + 1; deg = d; sum = t } ≡ counted x size k
+pub count-step : (x size : ℕ) (k : Kept) (d t : ℕ) → d ≡ (k .deg + size) % 2 ^ 64 → t ≡ (k .sum + x) % 2 ^ 64
+    → record { elements = k .elements; end = k .end + 1; deg = d; sum = t } ≡ counted x size k
 unfolding counted wrapped
-count-step x size k d t hd ht b = rw (plus-sum (k .cnt) 1 (omega arith), hd, ht)
+count-step x size k d t hd ht = rw (hd, ht)
 
 pub absorb-step : (n me e : ℕ) (s a b r : List ℤ) → a ≡ up n W s e 0 → b ≡ up n LEN a e 0 → r ≡ hang n b e (named n me) → r ≡ absorbed n me e s
 unfolding absorbed
 absorb-step n me e s a b r ha hb hr = rw (← ha, ← hb) hr
 
-module _ (n me flag : ℕ) (aggressive : Bool) (e w to : ℕ) (l s : List ℤ) (k : Kept) (b : Bool) (hb : b ≡ (aggressive && eqb w flag)) where
-  pub live-no : (r : List ℤ) → r ≡ absorbed n me e s → b ≡ true → keeping l r k ≡ keptLive n me flag aggressive e w to (keeping l s k)
+module _ (n me flag : ℕ) (aggressive : Bool) (e w : ℕ) (l s : List ℤ) (k : Kept) (b : Bool) (hb : b ≡ (aggressive && eqb w flag)) where
+  pub live-no : (r : List ℤ) → r ≡ absorbed n me e s → b ≡ true → keeping l r k ≡ keptLive n me flag aggressive e w (keeping l s k)
   unfolding keptLive
   live-no r hr h = rw (← hb, h, hr)
 
-  pub live-yes : (size : ℕ) (l₁ : List ℤ) (r : Kept) → size ≡ w - flag → l₁ ≡ wr l to e → r ≡ counted e size k → b ≡ false
-      → keeping l₁ s r ≡ keptLive n me flag aggressive e w to (keeping l s k)
+  pub live-yes : (size : ℕ) (l₁ : List ℤ) (r : Kept) → size ≡ w - flag → l₁ ≡ wr l (k .end) e → r ≡ counted e size k → b ≡ false
+      → keeping l₁ s r ≡ keptLive n me flag aggressive e w (keeping l s k)
   unfolding keptLive keptEntry
   live-yes size l₁ r hs hl hr h = rw (← hb, h, hl, hr, hs)
 
@@ -49,53 +46,48 @@ and-no true = refl
 and-no false = refl
 
 -- a mark above the flag is that of no element that is taken up
-module _ (n me flag : ℕ) (aggressive : Bool) (e w to : ℕ) (l s : List ℤ) (k : Kept) where
-  pub live-above : (l₁ : List ℤ) (r : Kept) → l₁ ≡ wr l to e → r ≡ counted e (w - flag) k → flag < w → keeping l₁ s r ≡ keptLive n me flag aggressive e w to (keeping l s k)
+module _ (n me flag : ℕ) (aggressive : Bool) (e w : ℕ) (l s : List ℤ) (k : Kept) where
+  pub live-above : (l₁ : List ℤ) (r : Kept) → l₁ ≡ wr l (k .end) e → r ≡ counted e (w - flag) k → flag < w → keeping l₁ s r ≡ keptLive n me flag aggressive e w (keeping l s k)
   unfolding keptLive keptEntry
   live-above l₁ r hl hr h = rw (ne-eqb w flag (λ u. omega arith), and-no aggressive, hl, hr)
 
-  pub live-at : (b : Bool) (l₁ : List ℤ) (r : Kept) → b ≡ (aggressive && eqb w flag) → l₁ ≡ wr l to e → r ≡ counted e 0 k → b ≡ false → w ≤ flag
-      → keeping l₁ s r ≡ keptLive n me flag aggressive e w to (keeping l s k)
-  live-at b l₁ r hb hl hr h a = live-yes n me flag aggressive e w to l s k b hb 0 l₁ r (omega arith) hl hr h
+  pub live-at : (b : Bool) (l₁ : List ℤ) (r : Kept) → b ≡ (aggressive && eqb w flag) → l₁ ≡ wr l (k .end) e → r ≡ counted e 0 k → b ≡ false → w ≤ flag
+      → keeping l₁ s r ≡ keptLive n me flag aggressive e w (keeping l s k)
+  live-at b l₁ r hb hl hr h a = live-yes n me flag aggressive e w l s k b hb 0 l₁ r (omega arith) hl hr h
 
-module _ (n me flag : ℕ) (aggressive : Bool) (q to : ℕ) (l s : List ℤ) (k : Kept) (e w : ℕ) (he : e ≡ at l q) (hw : w ≡ rd n W s e) where
-  pub element-yes : (x : Keeping) → x ≡ keptLive n me flag aggressive e w to (keeping l s k) → 0 < w → x ≡ keptElement n me flag aggressive q to (keeping l s k)
+module _ (n me flag : ℕ) (aggressive : Bool) (q : ℕ) (l s : List ℤ) (k : Kept) (e w : ℕ) (he : e ≡ at l q) (hw : w ≡ rd n W s e) where
+  pub element-yes : (x : Keeping) → x ≡ keptLive n me flag aggressive e w (keeping l s k) → 0 < w → x ≡ keptElement n me flag aggressive q (keeping l s k)
   unfolding keptElement
   element-yes x hx h = rw (← he, ← hw, lt-ltb 0 w h) hx
 
-  pub element-no : w ≤ 0 → keeping l s k ≡ keptElement n me flag aggressive q to (keeping l s k)
+  pub element-no : w ≤ 0 → keeping l s k ≡ keptElement n me flag aggressive q (keeping l s k)
   unfolding keptElement
   element-no h = rw (← he, ← hw, le-ltb 0 w h)
 
-module _ (n q to : ℕ) (l s : List ℤ) (k : Kept) (v w : ℕ) (hv : v ≡ at l q) (hw : w ≡ rd n WANT s v) where
-  pub variable-yes : (l₁ : List ℤ) (r : Kept) → l₁ ≡ wr l to v → r ≡ counted v w k → 0 < w → keeping l₁ s r ≡ keptVariable n q to (keeping l s k)
+module _ (n q : ℕ) (l s : List ℤ) (k : Kept) (v w : ℕ) (hv : v ≡ at l q) (hw : w ≡ rd n WANT s v) where
+  pub variable-yes : (l₁ : List ℤ) (r : Kept) → l₁ ≡ wr l (k .end) v → r ≡ counted v w k → 0 < w → keeping l₁ s r ≡ keptVariable n q (keeping l s k)
   unfolding keptVariable keptEntry
   variable-yes l₁ r hl hr h = rw (← hv, ← hw, lt-ltb 0 w h, hl, hr)
 
-  pub variable-no : w ≤ 0 → keeping l s k ≡ keptVariable n q to (keeping l s k)
+  pub variable-no : w ≤ 0 → keeping l s k ≡ keptVariable n q (keeping l s k)
   unfolding keptVariable
   variable-no h = rw (← hv, ← hw, le-ltb 0 w h)
 
 -- all turns are done
-pub elements-end : (n me flag : ℕ) (aggressive : Bool) (p len : ℕ) (l s : List ℤ) (turns t : ℕ) (x : Keeping)
-    → Turned (λ j m. keptElement n me flag aggressive (p + j) (p + m .kept .cnt) m) (keeping l s nothing) t x → turns ≡ clipped (length l) p len → t ≤ turns → turns ≤ t
-    → x ≡ keptElements n me flag aggressive p len l s
+pub elements-end : (n me flag : ℕ) (aggressive : Bool) (p len : ℕ) (l s : List ℤ) (t : ℕ) (x : Keeping)
+    → Turned (λ j. keptElement n me flag aggressive (p + j)) (keeping l s (nothing p)) t x → t ≤ len → len ≤ t → x ≡ keptElements n me flag aggressive p len l s
 unfolding keptElements
-elements-end n me flag aggressive p len l s turns t x h e a b =
-    rw (← e) (finish (λ j m. keptElement n me flag aggressive (p + j) (p + m .kept .cnt) m) (keeping l s nothing) t x h turns a b)
+elements-end n me flag aggressive p len l s t x h a b = finish (λ j. keptElement n me flag aggressive (p + j)) (keeping l s (nothing p)) t x h len a b
 
-pub variables-end : (n p from len : ℕ) (l s : List ℤ) (k : Kept) (there turns t : ℕ) (x : Keeping)
-    → Turned (λ j m. keptVariable n (from + j) (p + m .kept .cnt) m) (keeping l s (halfway k)) t x
-    → there ≡ clipped (length l) from len → turns ≡ clipped (length l) (p + k .cnt) there → t ≤ turns → turns ≤ t → x ≡ keptVariables n p from len (keeping l s k)
+pub variables-end : (n from len : ℕ) (l s : List ℤ) (k : Kept) (t : ℕ) (x : Keeping)
+    → Turned (λ j. keptVariable n (from + j)) (keeping l s (halfway k)) t x → t ≤ len → len ≤ t → x ≡ keptVariables n from len (keeping l s k)
 unfolding keptVariables
-variables-end n p from len l s k there turns t x h d e a b =
-    rw (← d, ← e) (finish (λ j m. keptVariable n (from + j) (p + m .kept .cnt) m) (keeping l s (halfway k)) t x h turns a b)
+variables-end n from len l s k t x h a b = finish (λ j. keptVariable n (from + j)) (keeping l s (halfway k)) t x h len a b
 
-pub all-step : (n me flag : ℕ) (aggressive : Bool) (i : ℕ) (l s : List ℤ) (own : Part) (p len : ℕ) (l₁ s₁ : List ℤ) (k : Kept) (x : Keeping)
-    → own ≡ ownPart n s i → p ≡ rd n PE s i → len ≡ rd n ELEN s i → keeping l₁ s₁ k ≡ keptElements n me flag aggressive p len l s
-    → x ≡ keptVariables n p (own .from) (own .len) (keeping l₁ s₁ k) → x ≡ keptAll n me flag aggressive i l s
+pub all-step : (n me flag : ℕ) (aggressive : Bool) (p elen len : ℕ) (l s l₁ s₁ : List ℤ) (k : Kept) (x : Keeping)
+    → keeping l₁ s₁ k ≡ keptElements n me flag aggressive p elen l s → x ≡ keptVariables n (p + elen) (len - elen) (keeping l₁ s₁ k) → x ≡ keptAll n me flag aggressive p elen len l s
 unfolding keptAll
-all-step n me flag aggressive i l s own p len l₁ s₁ k x ho hp hl hk hx = rw (← ho, ← hp, ← hl, ← hk) hx
+all-step n me flag aggressive p elen len l s l₁ s₁ k x hk hx = rw (← hk) hx
 
 -- ---- nothing is kept
 
@@ -118,17 +110,14 @@ mass-mem n me i made s a r ha hr = rw (← ha) hr
 
 -- ---- the list of a row that stays
 
-pub turn-step : (me p elements cnt : ℕ) (l a b r : List ℤ) → a ≡ wr l (p + cnt) (at l (p + elements)) → b ≡ wr a (p + elements) (at a p) → r ≡ wr b p me → r ≡ turned me p elements cnt l
+pub turn-step : (me p elements end : ℕ) (l a b r : List ℤ) (x y : ℕ) → x ≡ at l elements → a ≡ wr l end x → y ≡ at a p → b ≡ wr a elements y → r ≡ wr b p me
+    → r ≡ turned me p elements end l
 unfolding turned
-turn-step me p elements cnt l a b r ha hb hr = rw (← ha, ← hb) hr
+turn-step me p elements end l a b r x y hx ha hy hb hr = rw (← hx, ← ha, ← hy, ← hb) hr
 
-pub turn-there : (me p elements cnt : ℕ) (l a b r : List ℤ) (x y : ℕ) → x ≡ at l (p + elements) → a ≡ wr l (p + cnt) x → y ≡ at a p → b ≡ wr a (p + elements) y → r ≡ wr b p me
-    → r ≡ turned me p elements cnt l
-turn-there me p elements cnt l a b r x y hx ha hy hb hr = turn-step me p elements cnt l a b r (ha ∙ ap (wr l (p + cnt)) hx) (hb ∙ ap (wr a (p + elements)) hy) hr
-
-pub size-step : (n i elements cnt : ℕ) (s : List ℤ) (x y : ℕ) (a r : List ℤ) → x ≡ plus elements 1 → y ≡ plus cnt 1 → a ≡ up n ELEN s i x → r ≡ up n LEN a i y → r ≡ sized n i elements cnt s
+pub size-step : (n i elements cnt : ℕ) (s a r : List ℤ) → a ≡ up n ELEN s i (elements + 1) → r ≡ up n LEN a i (cnt + 1) → r ≡ sized n i elements cnt s
 unfolding sized
-size-step n i elements cnt s x y a r hx hy ha hr = rw (← hx, ← hy, ← ha) hr
+size-step n i elements cnt s a r ha hr = rw (← ha) hr
 
 module _ (n i deg : ℕ) (s : List ℤ) (old : ℕ) (ho : old ≡ rd n DEGREE s i) where
   pub lower-yes : (r : List ℤ) → r ≡ up n DEGREE s i deg → deg < old → r ≡ lowered n i deg s
@@ -151,26 +140,39 @@ pub put-key-step : (n i key : ℕ) (s : List ℤ) (before : ℕ) (a b r : List �
 unfolding keyed
 put-key-step n i key s before a b r hf ha hb hr = rw (← hf, ← ha, ← hb) hr
 
-pub relist-mem : (n i : ℕ) (k : Kept) (s a b : List ℤ) (key : ℕ) (r : List ℤ) → a ≡ sized n i (k .elements) (k .cnt) s → b ≡ lowered n i (k .deg) a → key ≡ keyOf n (k .sum)
-    → r ≡ keyed n i key b → r ≡ relisted n i k s
+pub relist-step : (n i p : ℕ) (k : Kept) (s a b : List ℤ) (key : ℕ) (r : List ℤ) → a ≡ sized n i (k .elements - p) (k .end - p) s → b ≡ lowered n i (k .deg) a → key ≡ keyOf n (k .sum)
+    → r ≡ keyed n i key b → r ≡ relisted n i p k s
 unfolding relisted
-relist-mem n i k s a b key r ha hb hk hr = rw (← ha, ← hb, ← hk) hr
-
-pub relist-lists : (n me i elements cnt : ℕ) (s l : List ℤ) (p : ℕ) (r : List ℤ) → p ≡ rd n PE s i → r ≡ turned me p elements cnt l → r ≡ turned me (rd n 0 s i) elements cnt l
-relist-lists n me i elements cnt s l p r hp hr = rw (← hp) hr
+relist-step n i p k s a b key r ha hb hk hr = rw (← ha, ← hb, ← hk) hr
 
 -- ---- the rows of the new element
 
-module _ (n me flag : ℕ) (aggressive : Bool) (i : ℕ) (l s : List ℤ) (t : Merged) (l₁ s₁ : List ℤ) (k : Kept) (h : keeping l₁ s₁ k ≡ keptAll n me flag aggressive i l s) where
-  pub update-stays : (l₂ s₂ : List ℤ) → l₂ ≡ turned me (rd n 0 s₁ i) (k .elements) (k .cnt) l₁ → s₂ ≡ relisted n i k s₁ → 0 < k .cnt
-      → trimming l₂ s₂ t ≡ updated n me flag aggressive i (trimming l s t)
-  unfolding updated settled
-  update-stays l₂ s₂ hl hs z = rw (← h, lt-ltb 0 (k .cnt) z, hl, hs)
+module _ (n me i p : ℕ) (l s : List ℤ) (k : Kept) (m : Keeping) (t : Merged) (h : keeping l s k ≡ m) where
+  pub settle-goes : (s₁ : List ℤ) (r : Merged) → r ≡ massed n i s t → s₁ ≡ buried n me i (t .made) (tookWeight n me i s) → k .end ≤ p → trimming l s₁ r ≡ settled n me i p m t
+  unfolding settled
+  settle-goes s₁ r hr hs z = rw (← h, le-ltb p (k .end) z, hr, hs)
 
-  pub update-goes : (s₂ : List ℤ) (r : Merged) → r ≡ massed n i s₁ t → s₂ ≡ buried n me i (t .made) (tookWeight n me i s₁) → k .cnt ≤ 0
-      → trimming l₁ s₂ r ≡ updated n me flag aggressive i (trimming l s t)
-  unfolding updated settled
-  update-goes s₂ r hr hs z = rw (← h, le-ltb 0 (k .cnt) z, hr, hs)
+  pub settle-stays : (l₁ s₁ : List ℤ) → l₁ ≡ turned me p (k .elements) (k .end) l → s₁ ≡ relisted n i p k s → p < k .end → k .end < length l → trimming l₁ s₁ t ≡ settled n me i p m t
+  unfolding settled renewed
+  settle-stays l₁ s₁ hl hs z b = rw (← h, lt-ltb p (k .end) z, lt-ltb (k .end) (length l) b, hl, hs)
+
+  pub settle-not : p < k .end → length l ≤ k .end → trimming l s t ≡ settled n me i p m t
+  unfolding settled renewed
+  settle-not z b = rw (← h, lt-ltb p (k .end) z, le-ltb (k .end) (length l) b)
+
+module _ (n me flag : ℕ) (aggressive : Bool) (i : ℕ) (l s : List ℤ) (t : Merged) (len : ℕ) (hl : len ≡ rd n LEN s i) where
+  pub update-there : (p elen : ℕ) → p ≡ rd n PE s i → elen ≡ rd n ELEN s i → (x : Trimming) → x ≡ settled n me i p (keptAll n me flag aggressive p elen len l s) t → elen ≤ len
+      → p + len ≤ length l → x ≡ updated n me flag aggressive i (trimming l s t)
+  unfolding updated
+  update-there p elen hp he x hx a b = rw (← hp, ← he, ← hl, le-leb elen len a, le-leb (p + len) (length l) b) hx
+
+  pub update-past : (p : ℕ) → p ≡ rd n PE s i → length l < p + len → trimming l s t ≡ updated n me flag aggressive i (trimming l s t)
+  unfolding updated
+  update-past p hp b = rw (← hp, ← hl, lt-leb (p + len) (length l) b, and-no (leb (rd n ELEN s i) len))
+
+  pub update-short : (elen : ℕ) → elen ≡ rd n ELEN s i → len < elen → trimming l s t ≡ updated n me flag aggressive i (trimming l s t)
+  unfolding updated
+  update-short elen he b = rw (← he, ← hl, lt-leb elen len b)
 
 pub at-step : (n me flag : ℕ) (aggressive : Bool) (q i : ℕ) (m x : Trimming) → i ≡ at (m .lists) q → x ≡ updated n me flag aggressive i m → x ≡ updatedAt n me flag aggressive q m
 unfolding updatedAt

@@ -1,11 +1,11 @@
 -- The variables of a row: those that are wanted move to behind what is kept of its elements.
 -- Assumes nothing.
-use Prim.Native.Nat.{_+_, _<_, _^_, _≤_, suc, ℕ}
+use Prim.Native.Nat.{_+_, _<_, _≤_, suc, ℕ}
 use native.Mathlib.Omega.{arith}
 use mathlib.Core.Bool.{Bool, false, true}
 use mathlib.Core.List.{List}
-use mathlib.Core.Logic.{_⊎_, inl, inr, ⊎-elim}
-use mathlib.Core.Path.{_∙_, _≡_, ap, refl, subst, sym}
+use mathlib.Core.Logic.{inr, ⊎-elim}
+use mathlib.Core.Path.{_≡_, ap, refl, subst, sym}
 use borrow.Author.Tests.{le-ltb, lt-ltb}
 use lib.Dec.{ltb}
 use lib.IntN.{ℤ}
@@ -14,7 +14,6 @@ use Rattle.plain.proofs.Entries.{entries-none}
 use Rattle.plain.proofs.Turns.{times-keeps}
 use Rattle.plain.specs.Lists.{keep, total}
 use Rattle.plain.specs.Turns.{entries}
-use Rattle.cells.proofs.Rows.{clipped-part}
 use Rattle.cells.proofs.Slices.{split}
 use Rattle.cells.specs.Layout.{WANT}
 use Rattle.cells.specs.View.{at, rd, wr}
@@ -23,15 +22,15 @@ use Rattle.trimming.specs.Model.{Keeping, counted, halfway, keeping, kep
 use Rattle.trimming.proofs.Filtering.{Left, keep-no-more, keep-one-more, left-more, left-same}
 use Rattle.trimming.proofs.Steps.{variable-no, variable-yes}
 
-module _ (n p from len : ℕ) (l s : List ℤ) (k : Kept) (narrow : length l < 2 ^ 62) (behind : p + k .cnt ≤ from) (fits : 0 < len → from + len ≤ length l) where
+module _ (n from len : ℕ) (l s : List ℤ) (k : Kept) (behind : k .end ≤ from) (fits : from + len ≤ length l) where
   abbrev wanted : ℕ → Bool
   wanted v = ltb 0 (rd n WANT s v)
 
   abbrev Picked : ℕ → Keeping → Type 0
-  Picked t m = Left (rd n WANT s) l (p + k .cnt) from (k .cnt) (k .deg) (k .sum) t (keep wanted (entries (at l) from t)) m × (m .mem ≡ s) × (m .kept .elements ≡ k .cnt)
+  Picked t m = Left (rd n WANT s) l (k .end) from (k .deg) (k .sum) t (keep wanted (entries (at l) from t)) m × (m .mem ≡ s) × (m .kept .elements ≡ k .end)
 
   abbrev step : ℕ → Keeping → Keeping
-  step t m = keptVariable n (from + t) (p + m .kept .cnt) m
+  step t = keptVariable n (from + t)
 
   module _ (t : ℕ) (m : Keeping) (b : t < len) (h : Picked t m) where
     abbrev x : ℕ
@@ -50,13 +49,11 @@ module _ (n p from len : ℕ) (l s : List ℤ) (k : Kept) (narrow : length l < 2
     unfolding keptEntry counted
     passes z =
         let on : wanted x ≡ true = lt-ltb 0 (rd n WANT s x) z in
-        let to : p + m .kept .cnt ≡ p + k .cnt + length (keep wanted vs) = omega (arith, h .0 .count) in
         subst (Picked (suc t))
-        (variable-yes n (from + t) (p + m .kept .cnt) (m .lists) (m .mem) (m .kept) x (rd n WANT s x) refl (sym weight)
-        (wr (m .lists) (p + m .kept .cnt) x) (counted x (rd n WANT s x) (m .kept)) refl refl z) (
+        (variable-yes n (from + t) (m .lists) (m .mem) (m .kept) x (rd n WANT s x) refl (sym weight)
+        (wr (m .lists) (m .kept .end) x) (counted x (rd n WANT s x) (m .kept)) refl refl z) (
           rw (keep-one-more wanted (at l) from t x same on)
-              (left-more (rd n WANT s) l (p + k .cnt) from (k .cnt) (k .deg) (k .sum) t (keep wanted vs) m (h .0) x (p + m .kept .cnt) behind
-              (omega (arith, fits (omega arith))) (omega (arith, fits (omega arith))) to),
+              (left-more (rd n WANT s) l (k .end) from (k .deg) (k .sum) t (keep wanted vs) m (h .0) x behind (omega arith)),
           h .1,
           h .2,
         )
@@ -65,9 +62,9 @@ module _ (n p from len : ℕ) (l s : List ℤ) (k : Kept) (narrow : length l < 2
     fails z =
         let off : wanted x ≡ false = le-ltb 0 (rd n WANT s x) z in
         subst (Picked (suc t))
-        (variable-no n (from + t) (p + m .kept .cnt) (m .lists) (m .mem) (m .kept) x (rd n WANT s x) refl (sym weight) z) (
+        (variable-no n (from + t) (m .lists) (m .mem) (m .kept) x (rd n WANT s x) refl (sym weight) z) (
           rw (keep-no-more wanted (at l) from t x same off)
-              (left-same (rd n WANT s) l (p + k .cnt) from (k .cnt) (k .deg) (k .sum) t (keep wanted vs) m (h .0) (m .mem)),
+              (left-same (rd n WANT s) l (k .end) from (k .deg) (k .sum) t (keep wanted vs) m (h .0) (m .mem)),
           h .1,
           h .2,
         )
@@ -77,8 +74,8 @@ module _ (n p from len : ℕ) (l s : List ℤ) (k : Kept) (narrow : length l < 2
   begun = (
     rw (entries-none (at l) from)
         record {
-          count = omega arith;
-          here = entries-none (at l) (p + k .cnt);
+          end = omega arith;
+          here = entries-none (at l) (k .end);
           few = omega arith;
           rest = λ q o. refl;
           long = refl;
@@ -90,8 +87,7 @@ module _ (n p from len : ℕ) (l s : List ℤ) (k : Kept) (narrow : length l < 2
   )
 
   -- THE variables of a row
-  pub variables-picked : Picked len (keptVariables n p from len (keeping l s k))
+  pub variables-picked : Picked len (keptVariables n from len (keeping l s k))
   unfolding keptVariables
   variables-picked =
-      rw (clipped-part (length l) from len fits, clipped-part (length l) (p + k .cnt) len (λ z. omega (arith, fits z)))
-      (times-keeps Picked step len (λ t m b h. ⊎-elim (λ z. passes t m b h z) (λ z. fails t m b h z) (split 0 (rd n WANT s (at (m .lists) (from + t))))) len (keeping l s (halfway k)) (omega arith) begun)
+      times-keeps Picked step len (λ t m b h. ⊎-elim (λ z. passes t m b h z) (λ z. fails t m b h z) (split 0 (rd n WANT s (at (m .lists) (from + t))))) len (keeping l s (halfway k)) (omega arith) begun

@@ -1,9 +1,10 @@
 -- What each function does to the memory: the code's own steps, as functions. The laws of `proofs/` say what these mean for the lists.
 -- Assumes nothing.
-use Prim.Native.Nat.{_+_, _-_, _%_, _<_, _^_, ℕ}
+use Prim.Native.Nat.{_+_, _-_, _%_, _<_, _≤_, _^_, ℕ}
 use mathlib.Core.Bool.{Bool, cond, _&&_}
 use mathlib.Core.List.{List}
-use lib.Dec.{eqb, ltb}
+use mathlib.Core.Path.{_≡_}
+use lib.Dec.{eqb, leb, ltb}
 use lib.IntN.{ℤ}
 use lib.ListN.{length}
 use Rattle.plain.specs.Turns.{times}
@@ -11,22 +12,23 @@ use Rattle.cells.specs.Layout.{PE, LEN, WANT, ELEN, DEGREE, W, HHEAD, HNEXT, HK
 use Rattle.cells.specs.View.{at, plus, rd, up, wr}
 use Rattle.cells.specs.Rows.{clipped}
 use Rattle.cells.specs.Links.{named, hang}
-use Rattle.packed.specs.Tray.{ownPart}
 use Rattle.trimming.specs.declared.Kept.{Kept}
 use Rattle.trimming.specs.declared.Merged.{Merged}
 
 -- ---- what is kept
 
-pub record Small (k : Kept) : Type 0 where
-  pub elements : k .elements < 2 ^ 63
-  pub cnt : k .cnt < 2 ^ 63
+-- from k to r one more is kept, or none
+pub record Grown (k r : Kept) : Type 0 where
+  pub elements : r .elements ≡ k .elements
+  pub low : k .end ≤ r .end
+  pub high : r .end ≤ k .end + 1
 
 -- the sum, as a machine's word has it
 unfoldable pub wrapped : ℕ → ℕ → ℕ
 wrapped a b = (a + b) % 2 ^ 64
 
 unfoldable pub counted : ℕ → ℕ → Kept → Kept
-counted x size k = record { elements = k .elements; cnt = plus (k .cnt) 1; deg = wrapped (k .deg) size; sum = wrapped (k .sum) x }
+counted x size k = record { elements = k .elements; end = k .end + 1; deg = wrapped (k .deg) size; sum = wrapped (k .sum) x }
 
 -- the list space, the scratch, and the numbers beside them
 pub record Keeping : Type 0 where
@@ -37,9 +39,9 @@ pub record Keeping : Type 0 where
 abbrev pub keeping : List ℤ → List ℤ → Kept → Keeping
 keeping l s k = record { lists = l; mem = s; kept = k }
 
--- x, of this size, goes to cell `to`
-unfoldable pub keptEntry : ℕ → ℕ → ℕ → Keeping → Keeping
-keptEntry x to size m = keeping (wr (m .lists) to x) (m .mem) (counted x size (m .kept))
+-- x, of this size, goes to the cell behind what is kept
+unfoldable pub keptEntry : ℕ → ℕ → Keeping → Keeping
+keptEntry x size m = keeping (wr (m .lists) (m .kept .end) x) (m .mem) (counted x size (m .kept))
 
 -- element e is a child of me
 unfoldable pub absorbed : ℕ → ℕ → ℕ → List ℤ → List ℤ
@@ -49,41 +51,40 @@ absorbed n me e s = hang n (up n LEN (up n W s e 0) e 0) e (named n me)
 abbrev pub swallows : Bool → ℕ → ℕ → Bool
 swallows aggressive flag w = aggressive && eqb w flag
 
-unfoldable pub keptLive : ℕ → ℕ → ℕ → Bool → ℕ → ℕ → ℕ → Keeping → Keeping
-keptLive n me flag aggressive e w to m =
-    cond (swallows aggressive flag w) (keeping (m .lists) (absorbed n me e (m .mem)) (m .kept)) (keptEntry e to (w - flag) m)
+unfoldable pub keptLive : ℕ → ℕ → ℕ → Bool → ℕ → ℕ → Keeping → Keeping
+keptLive n me flag aggressive e w m =
+    cond (swallows aggressive flag w) (keeping (m .lists) (absorbed n me e (m .mem)) (m .kept)) (keptEntry e (w - flag) m)
 
 -- the element in cell q
-unfoldable pub keptElement : ℕ → ℕ → ℕ → Bool → ℕ → ℕ → Keeping → Keeping
-keptElement n me flag aggressive q to m =
-    cond (ltb 0 (rd n W (m .mem) (at (m .lists) q))) (keptLive n me flag aggressive (at (m .lists) q) (rd n W (m .mem) (at (m .lists) q)) to m) m
+unfoldable pub keptElement : ℕ → ℕ → ℕ → Bool → ℕ → Keeping → Keeping
+keptElement n me flag aggressive q m =
+    cond (ltb 0 (rd n W (m .mem) (at (m .lists) q))) (keptLive n me flag aggressive (at (m .lists) q) (rd n W (m .mem) (at (m .lists) q)) m) m
 
-abbrev pub nothing : Kept
-nothing = record { elements = 0; cnt = 0; deg = 0; sum = 0 }
+-- of what stands from p on
+abbrev pub nothing : ℕ → Kept
+nothing p = record { elements = p; end = p; deg = 0; sum = 0 }
 
 unfoldable pub keptElements : ℕ → ℕ → ℕ → Bool → ℕ → ℕ → List ℤ → List ℤ → Keeping
 keptElements n me flag aggressive p len l s =
-    times (clipped (length l) p len) (λ t m. keptElement n me flag aggressive (p + t) (p + m .kept .cnt) m) (keeping l s nothing)
+    times len (λ t. keptElement n me flag aggressive (p + t)) (keeping l s (nothing p))
 
 -- the variable in cell q
-unfoldable pub keptVariable : ℕ → ℕ → ℕ → Keeping → Keeping
-keptVariable n q to m =
-    cond (ltb 0 (rd n WANT (m .mem) (at (m .lists) q))) (keptEntry (at (m .lists) q) to (rd n WANT (m .mem) (at (m .lists) q)) m) m
+unfoldable pub keptVariable : ℕ → ℕ → Keeping → Keeping
+keptVariable n q m =
+    cond (ltb 0 (rd n WANT (m .mem) (at (m .lists) q))) (keptEntry (at (m .lists) q) (rd n WANT (m .mem) (at (m .lists) q)) m) m
 
 -- the elements are done
 abbrev pub halfway : Kept → Kept
-halfway k = record { elements = k .cnt; cnt = k .cnt; deg = k .deg; sum = k .sum }
+halfway k = record { elements = k .end; end = k .end; deg = k .deg; sum = k .sum }
 
--- as many as there are cells from `from` on, and behind what is kept
-unfoldable pub keptVariables : ℕ → ℕ → ℕ → ℕ → Keeping → Keeping
-keptVariables n p from len m =
-    times (clipped (length (m .lists)) (p + m .kept .cnt) (clipped (length (m .lists)) from len)) (λ t m. keptVariable n (from + t) (p + m .kept .cnt) m)
-    (keeping (m .lists) (m .mem) (halfway (m .kept)))
+unfoldable pub keptVariables : ℕ → ℕ → ℕ → Keeping → Keeping
+keptVariables n from len m =
+    times len (λ t. keptVariable n (from + t)) (keeping (m .lists) (m .mem) (halfway (m .kept)))
 
--- what row i keeps
-unfoldable pub keptAll : ℕ → ℕ → ℕ → Bool → ℕ → List ℤ → List ℤ → Keeping
-keptAll n me flag aggressive i l s =
-    keptVariables n (rd n PE s i) (ownPart n s i .from) (ownPart n s i .len) (keptElements n me flag aggressive (rd n PE s i) (rd n ELEN s i) l s)
+-- of the list of len cells from p on, with so many elements
+unfoldable pub keptAll : ℕ → ℕ → ℕ → Bool → ℕ → ℕ → ℕ → List ℤ → List ℤ → Keeping
+keptAll n me flag aggressive p elen len l s =
+    keptVariables n (p + elen) (len - elen) (keptElements n me flag aggressive p elen l s)
 
 -- ---- nothing is kept
 
@@ -107,12 +108,12 @@ massed n i s t = record { weight = plus (t .weight) (rd n NV s i); made = plus (
 
 -- the number at place `elements` goes to the end, the first to its place, and me to the front
 unfoldable pub turned : ℕ → ℕ → ℕ → ℕ → List ℤ → List ℤ
-turned me p elements cnt l =
-    let a = wr l (p + cnt) (at l (p + elements)) in
-    wr (wr a (p + elements) (at a p)) p me
+turned me p elements end l =
+    let a = wr l end (at l elements) in
+    wr (wr a elements (at a p)) p me
 
 unfoldable pub sized : ℕ → ℕ → ℕ → ℕ → List ℤ → List ℤ
-sized n i elements cnt s = up n LEN (up n ELEN s i (plus elements 1)) i (plus cnt 1)
+sized n i elements cnt s = up n LEN (up n ELEN s i (elements + 1)) i (cnt + 1)
 
 unfoldable pub lowered : ℕ → ℕ → ℕ → List ℤ → List ℤ
 lowered n i deg s = cond (ltb deg (rd n DEGREE s i)) (up n DEGREE s i deg) s
@@ -123,8 +124,8 @@ keyOf n sum = cond (ltb 0 n) (sum % n) 0
 unfoldable pub keyed : ℕ → ℕ → ℕ → List ℤ → List ℤ
 keyed n i key s = up n HKEY (up n HHEAD (up n HNEXT s i (rd n HHEAD s key)) key i) i key
 
-unfoldable pub relisted : ℕ → ℕ → Kept → List ℤ → List ℤ
-relisted n i k s = keyed n i (keyOf n (k .sum)) (lowered n i (k .deg) (sized n i (k .elements) (k .cnt) s))
+unfoldable pub relisted : ℕ → ℕ → ℕ → Kept → List ℤ → List ℤ
+relisted n i p k s = keyed n i (keyOf n (k .sum)) (lowered n i (k .deg) (sized n i (k .elements - p) (k .end - p) s))
 
 -- ---- the rows of the new element
 
@@ -137,15 +138,28 @@ pub record Trimming : Type 0 where
 abbrev pub trimming : List ℤ → List ℤ → Merged → Trimming
 trimming l s t = record { lists = l; mem = s; merged = t }
 
--- row i, which keeps k
-unfoldable pub settled : ℕ → ℕ → ℕ → Keeping → Merged → Trimming
-settled n me i m t =
-    cond (ltb 0 (m .kept .cnt))
-    (trimming (turned me (rd n PE (m .mem) i) (m .kept .elements) (m .kept .cnt) (m .lists)) (relisted n i (m .kept) (m .mem)) t)
+-- row i, which keeps something from p on: its new list has one cell more, and where there is none nothing is done
+unfoldable pub renewed : ℕ → ℕ → ℕ → ℕ → Keeping → Merged → Trimming
+renewed n me i p m t =
+    cond (ltb (m .kept .end) (length (m .lists)))
+    (trimming (turned me p (m .kept .elements) (m .kept .end) (m .lists)) (relisted n i p (m .kept) (m .mem)) t)
+    (trimming (m .lists) (m .mem) t)
+
+-- row i, with what is kept from p on
+unfoldable pub settled : ℕ → ℕ → ℕ → ℕ → Keeping → Merged → Trimming
+settled n me i p m t =
+    cond (ltb p (m .kept .end)) (renewed n me i p m t)
     (trimming (m .lists) (buried n me i (t .made) (tookWeight n me i (m .mem))) (massed n i (m .mem) t))
 
+-- the list of row i is there
+abbrev pub present : ℕ → ℕ → List ℤ → List ℤ → Bool
+present n i l s = leb (rd n ELEN s i) (rd n LEN s i) && leb (rd n PE s i + rd n LEN s i) (length l)
+
 unfoldable pub updated : ℕ → ℕ → ℕ → Bool → ℕ → Trimming → Trimming
-updated n me flag aggressive i m = settled n me i (keptAll n me flag aggressive i (m .lists) (m .mem)) (m .merged)
+updated n me flag aggressive i m =
+    cond (present n i (m .lists) (m .mem))
+    (settled n me i (rd n PE (m .mem) i) (keptAll n me flag aggressive (rd n PE (m .mem) i) (rd n ELEN (m .mem) i) (rd n LEN (m .mem) i) (m .lists) (m .mem)) (m .merged))
+    m
 
 unfoldable pub updatedAt : ℕ → ℕ → ℕ → Bool → ℕ → Trimming → Trimming
 updatedAt n me flag aggressive q m = updated n me flag aggressive (at (m .lists) q) m

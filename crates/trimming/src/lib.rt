@@ -5,41 +5,41 @@ ghost use mathlib.Core.Bool.{_&&_};
 ghost use Prim.Native.Nat.{_+_, _<_, _≤_, _^_};
 ghost use lib.Dec.{eqb};
 ghost use lib.ListN.{length};
-ghost use Rattle.cells.specs.View.{Room, at, wr, rd};
+ghost use Rattle.cells.specs.View.{Room, wr};
 ghost use Rattle.cells.specs.Rows.{Rows};
-ghost use Rattle.trimming.specs.Model.{Small, counted, absorbed, keeping, keptEntry, keptLive, keptElement, keptElements, keptVariable, keptVariables, keptAll, weighed, tookWeight, buried, massed, turned, sized, lowered, keyOf, keyed, relisted, Few, trimming, updated, updatedAt, updatedAll};
+ghost use Rattle.trimming.specs.Model.{Grown, counted, absorbed, keeping, keptLive, keptElement, keptElements, keptVariable, keptVariables, keptAll, weighed, tookWeight, buried, massed, turned, sized, lowered, keyOf, keyed, relisted, settled, Few, trimming, updated, updatedAt, updatedAll};
 
 // ---- what is kept
 
-// Of a list: how many are kept, how many of them are elements (once they are done), the sum of their sizes and weights, and the sum of their numbers.
+// Of a list: the place behind what is kept, the one behind the elements of it (once they are done), the sum of their sizes and weights, and the sum of their numbers.
 pub struct Kept {
     pub elements: usize,
-    pub cnt: usize,
+    pub end: usize,
     pub deg: usize,
     pub sum: usize,
 }
 
 // `x`, of this size, is kept.
 pub fn count(x: usize, size: usize, k: Kept) -> Kept
-    requires { ⌜ (k .cnt < 2 ^ 62) × Small k ⌝ }
-    ensures { λ r. ⌜ (r ≡ counted x size k) × (r .cnt ≤ k .cnt + 1) × Small r ⌝ }
+    requires { ⌜ k .end < 2 ^ 62 ⌝ }
+    ensures { λ r. ⌜ (r ≡ counted x size k) × Grown k r ⌝ }
 {
     let d = std::num::wrapping_add_usize(k.deg, size);
     let t = std::num::wrapping_add_usize(k.sum, x);
     Kept {
         elements: k.elements,
-        cnt: k.cnt + 1,
+        end: k.end + 1,
         deg: d,
         sum: t,
     }
 }
 
-// Row `x` goes to cell `to` of the lists, and is counted. No more are kept than there are cells before `to`, so that their number needs no cap.
-pub fn keep_entry(lists: &mut [i64], n: usize, x: usize, to: usize, size: usize, k: Kept) -> Kept
-    requires { ⌜ Rows n (now lists) × (x < n) × (x < 2 ^ 63) × (to < length (now lists)) × (k .cnt ≤ to) × Small k ⌝ }
-    ensures { λ r. ⌜ (now (lists .exit) ≡ wr (now (lists .entry)) to x) × Rows n (now (lists .exit)) × (r ≡ counted x size k) × (r .cnt ≤ k .cnt + 1) × Small r ⌝ }
+// Row `x` goes to the cell behind what is kept, and is counted.
+pub fn keep_entry(lists: &mut [i64], n: usize, x: usize, size: usize, k: Kept) -> Kept
+    requires { ⌜ Rows n (now lists) × (x < n) × (x < 2 ^ 63) × (k .end < length (now lists)) ⌝ }
+    ensures { λ r. ⌜ (now (lists .exit) ≡ wr (now (lists .entry)) (k .end) x) × Rows n (now (lists .exit)) × (r ≡ counted x size k) × Grown k r ⌝ }
 {
-    cells::put_row(lists, n, to, x);
+    cells::put_row(lists, n, k.end, x);
     count(x, size, k)
 }
 
@@ -68,21 +68,20 @@ pub fn keep_live(
     me: usize,
     e: usize,
     w: usize,
-    to: usize,
     flag: usize,
     aggressive: bool,
     k: Kept,
 ) -> Kept
-    requires { ⌜ Room n (now s) × Rows n (now lists) × (e < n) × (w < 2 ^ 63) × (to < length (now lists)) × (k .cnt ≤ to) × Small k ⌝ }
-    ensures { λ r. ⌜ (keeping (now (lists .exit)) (now (s .exit)) r ≡ keptLive n me flag aggressive e w to (keeping (now (lists .entry)) (now (s .entry)) k)) × Room n (now (s .exit)) × Rows n (now (lists .exit)) × (r .cnt ≤ k .cnt + 1) × Small r ⌝ }
+    requires { ⌜ Room n (now s) × Rows n (now lists) × (e < n) × (w < 2 ^ 63) × (k .end < length (now lists)) ⌝ }
+    ensures { λ r. ⌜ (keeping (now (lists .exit)) (now (s .exit)) r ≡ keptLive n me flag aggressive e w (keeping (now (lists .entry)) (now (s .entry)) k)) × Room n (now (s .exit)) × Rows n (now (lists .exit)) × Grown k r ⌝ }
 {
     if flag < w {
-        keep_entry(lists, n, e, to, w - flag, k)
+        keep_entry(lists, n, e, w - flag, k)
     } else if swallows(w, flag, aggressive) {
         absorb(s, n, e, me);
         k
     } else {
-        keep_entry(lists, n, e, to, 0, k)
+        keep_entry(lists, n, e, 0, k)
     }
 }
 
@@ -93,18 +92,17 @@ pub fn keep_element(
     n: usize,
     me: usize,
     q: usize,
-    to: usize,
     flag: usize,
     aggressive: bool,
     k: Kept,
 ) -> Kept
-    requires { ⌜ Room n (now s) × Rows n (now lists) × (q < length (now lists)) × (to < length (now lists)) × (k .cnt ≤ to) × Small k ⌝ }
-    ensures { λ r. ⌜ (keeping (now (lists .exit)) (now (s .exit)) r ≡ keptElement n me flag aggressive q to (keeping (now (lists .entry)) (now (s .entry)) k)) × Room n (now (s .exit)) × Rows n (now (lists .exit)) × (r .cnt ≤ k .cnt + 1) × Small r ⌝ }
+    requires { ⌜ Room n (now s) × Rows n (now lists) × (k .end ≤ q) × (q < length (now lists)) ⌝ }
+    ensures { λ r. ⌜ (keeping (now (lists .exit)) (now (s .exit)) r ≡ keptElement n me flag aggressive q (keeping (now (lists .entry)) (now (s .entry)) k)) × Room n (now (s .exit)) × Rows n (now (lists .exit)) × Grown k r ⌝ }
 {
     let e = cells::row(lists, n, q);
     let w = cells::get(s, n, cells::W, e);
     if 0 < w {
-        keep_live(lists, s, n, me, e, w, to, flag, aggressive, k)
+        keep_live(lists, s, n, me, e, w, flag, aggressive, k)
     } else {
         k
     }
@@ -121,81 +119,76 @@ pub fn keep_elements(
     flag: usize,
     aggressive: bool,
 ) -> Kept
-    requires { ⌜ Room n (now s) × Rows n (now lists) × (p < 2 ^ 63) × (len < 2 ^ 63) ⌝ }
-    ensures { λ r. ⌜ (keeping (now (lists .exit)) (now (s .exit)) r ≡ keptElements n me flag aggressive p len (now (lists .entry)) (now (s .entry))) × Room n (now (s .exit)) × Rows n (now (lists .exit)) × Small r ⌝ }
+    requires { ⌜ Room n (now s) × Rows n (now lists) × (p + len ≤ length (now lists)) ⌝ }
+    ensures { λ r. ⌜ (keeping (now (lists .exit)) (now (s .exit)) r ≡ keptElements n me flag aggressive p len (now (lists .entry)) (now (s .entry))) × Room n (now (s .exit)) × Rows n (now (lists .exit)) × (p ≤ r .end) × (r .end ≤ p + len) ⌝ }
 {
-    let turns = cells::clip(lists.len(), p, len);
     let mut k = Kept {
-        elements: 0,
-        cnt: 0,
+        elements: p,
+        end: p,
         deg: 0,
         sum: 0,
     };
-    for t in 0..turns {
-        k = keep_element(lists, s, n, me, p + t, p + k.cnt, flag, aggressive, k);
+    for t in 0..len {
+        k = keep_element(lists, s, n, me, p + t, flag, aggressive, k);
     }
     k
 }
 
 // The variable in cell `q`: kept if it is wanted.
-pub fn keep_variable(lists: &mut [i64], s: &[i64], n: usize, q: usize, to: usize, k: Kept) -> Kept
-    requires { ⌜ Room n (now s) × Rows n (now lists) × (q < length (now lists)) × (to < length (now lists)) × (k .cnt ≤ to) × Small k ⌝ }
-    ensures { λ r. ⌜ (keeping (now (lists .exit)) (now (s .entry)) r ≡ keptVariable n q to (keeping (now (lists .entry)) (now (s .entry)) k)) × Rows n (now (lists .exit)) × (r .cnt ≤ k .cnt + 1) × Small r ⌝ }
+pub fn keep_variable(lists: &mut [i64], s: &[i64], n: usize, q: usize, k: Kept) -> Kept
+    requires { ⌜ Room n (now s) × Rows n (now lists) × (k .end ≤ q) × (q < length (now lists)) ⌝ }
+    ensures { λ r. ⌜ (keeping (now (lists .exit)) (now (s .entry)) r ≡ keptVariable n q (keeping (now (lists .entry)) (now (s .entry)) k)) × Rows n (now (lists .exit)) × Grown k r ⌝ }
 {
     let v = cells::row(lists, n, q);
     let w = cells::get(s, n, cells::WANT, v);
     if 0 < w {
-        keep_entry(lists, n, v, to, w, k)
+        keep_entry(lists, n, v, w, k)
     } else {
         k
     }
 }
 
-// The `len` variables from `from` on: those that are kept move to behind what is kept from `p` on. That there are cells to move them to is asked once, too.
+// The `len` variables from `from` on: those that are kept move to behind what is kept of the elements.
 pub fn keep_variables(
     lists: &mut [i64],
     s: &[i64],
     n: usize,
-    p: usize,
     from: usize,
     len: usize,
     start: Kept,
 ) -> Kept
-    requires { ⌜ Room n (now s) × Rows n (now lists) × (p < 2 ^ 63) × (from < 2 ^ 63) × (len < 2 ^ 63) × Small start ⌝ }
-    ensures { λ r. ⌜ (keeping (now (lists .exit)) (now (s .entry)) r ≡ keptVariables n p from len (keeping (now (lists .entry)) (now (s .entry)) start)) × Rows n (now (lists .exit)) × Small r ⌝ }
+    requires { ⌜ Room n (now s) × Rows n (now lists) × (start .end ≤ from) × (from + len ≤ length (now lists)) ⌝ }
+    ensures { λ r. ⌜ (keeping (now (lists .exit)) (now (s .entry)) r ≡ keptVariables n from len (keeping (now (lists .entry)) (now (s .entry)) start)) × Rows n (now (lists .exit)) × (r .elements ≡ start .end) × (start .end ≤ r .end) × (r .end ≤ from + len) ⌝ }
 {
-    let there = cells::clip(lists.len(), from, len);
-    let turns = cells::clip(lists.len(), p + start.cnt, there);
     let mut k = Kept {
-        elements: start.cnt,
-        cnt: start.cnt,
+        elements: start.end,
+        end: start.end,
         deg: start.deg,
         sum: start.sum,
     };
-    for t in 0..turns {
-        k = keep_variable(lists, s, n, from + t, p + k.cnt, k);
+    for t in 0..len {
+        k = keep_variable(lists, s, n, from + t, k);
     }
     k
 }
 
-// What row `i` keeps of its list.
+// What is kept of the list of `len` cells from `p` on, `elen` of them elements.
 pub fn keep_all(
     lists: &mut [i64],
     s: &mut [i64],
     n: usize,
     me: usize,
-    i: usize,
+    p: usize,
+    elen: usize,
+    len: usize,
     flag: usize,
     aggressive: bool,
 ) -> Kept
-    requires { ⌜ Room n (now s) × Rows n (now lists) × (i < n) ⌝ }
-    ensures { λ r. ⌜ (keeping (now (lists .exit)) (now (s .exit)) r ≡ keptAll n me flag aggressive i (now (lists .entry)) (now (s .entry))) × Room n (now (s .exit)) × Rows n (now (lists .exit)) × Small r ⌝ }
+    requires { ⌜ Room n (now s) × Rows n (now lists) × (elen ≤ len) × (p + len ≤ length (now lists)) ⌝ }
+    ensures { λ r. ⌜ (keeping (now (lists .exit)) (now (s .exit)) r ≡ keptAll n me flag aggressive p elen len (now (lists .entry)) (now (s .entry))) × Room n (now (s .exit)) × Rows n (now (lists .exit)) × (p ≤ r .elements) × (r .elements ≤ r .end) ⌝ }
 {
-    let own = packed::own_part(s, n, i);
-    let p = cells::get(s, n, cells::PE, i);
-    let k = cells::get(s, n, cells::ELEN, i);
-    let first = keep_elements(lists, s, n, me, p, k, flag, aggressive);
-    keep_variables(lists, s, n, p, own.from, own.len, first)
+    let first = keep_elements(lists, s, n, me, p, elen, flag, aggressive);
+    keep_variables(lists, s, n, p + elen, len - elen, first)
 }
 
 // ---- nothing is kept
@@ -246,43 +239,25 @@ pub fn mass_eliminate(s: &mut [i64], n: usize, me: usize, i: usize, t: Merged) -
 
 // ---- the list of a row that stays
 
-// The same as below, where there is a cell behind the numbers.
-pub fn turn_there(lists: &mut [i64], n: usize, me: usize, p: usize, elements: usize, cnt: usize)
-    requires { ⌜ Rows n (now lists) × (me < n) × (me < 2 ^ 63) × (elements ≤ cnt) × (p + cnt < length (now lists)) ⌝ }
-    ensures { λ _. ⌜ (now (lists .exit) ≡ turned me p elements cnt (now (lists .entry))) × Rows n (now (lists .exit)) ⌝ }
+// Of the numbers from `p` to `end` the first goes to place `elements`, the one there to the end, and `me` to the front.
+pub fn turn_list(lists: &mut [i64], n: usize, me: usize, p: usize, elements: usize, end: usize)
+    requires { ⌜ Rows n (now lists) × (me < n) × (me < 2 ^ 63) × (p ≤ elements) × (elements ≤ end) × (end < length (now lists)) ⌝ }
+    ensures { λ _. ⌜ (now (lists .exit) ≡ turned me p elements end (now (lists .entry))) × Rows n (now (lists .exit)) ⌝ }
 {
-    let last = cells::row(lists, n, p + elements);
-    cells::put_row(lists, n, p + cnt, last);
+    let last = cells::row(lists, n, elements);
+    cells::put_row(lists, n, end, last);
     let first = cells::row(lists, n, p);
-    cells::put_row(lists, n, p + elements, first);
+    cells::put_row(lists, n, elements, first);
     cells::put_row(lists, n, p, me);
-}
-
-// Of the `cnt` numbers from `p` on the first goes to place `elements`, the one there to the end, and `me` to the front.
-pub fn turn_list(lists: &mut [i64], n: usize, me: usize, p: usize, elements: usize, cnt: usize)
-    requires { ⌜ Rows n (now lists) × (me < n) × (me < 2 ^ 63) × (p < 2 ^ 63) × (elements < 2 ^ 63) × (cnt < 2 ^ 63) ⌝ }
-    ensures { λ _. ⌜ (now (lists .exit) ≡ turned me p elements cnt (now (lists .entry))) × Rows n (now (lists .exit)) ⌝ }
-{
-    if elements <= cnt {
-        if p + cnt < lists.len() {
-            turn_there(lists, n, me, p, elements, cnt);
-            return;
-        }
-    }
-    cells::copy_row(lists, n, p + elements, p + cnt);
-    cells::copy_row(lists, n, p, p + elements);
-    cells::poke_row(lists, n, p, me);
 }
 
 // The counts of row `i`, with `me` in its list.
 pub fn finish_list(s: &mut [i64], n: usize, i: usize, elements: usize, cnt: usize)
-    requires { ⌜ Room n (now s) × (i < n) × (elements < 2 ^ 63) × (cnt < 2 ^ 63) ⌝ }
+    requires { ⌜ Room n (now s) × (i < n) × (elements < 2 ^ 62) × (cnt < 2 ^ 62) ⌝ }
     ensures { λ _. ⌜ (now (s .exit) ≡ sized n i elements cnt (now (s .entry))) × Room n (now (s .exit)) ⌝ }
 {
-    let a = cells::plus(elements, 1);
-    let b = cells::plus(cnt, 1);
-    cells::set(s, n, cells::ELEN, i, a);
-    cells::set(s, n, cells::LEN, i, b);
+    cells::set(s, n, cells::ELEN, i, elements + 1);
+    cells::set(s, n, cells::LEN, i, cnt + 1);
 }
 
 // The degree without the new element: the smaller of the old and `deg`.
@@ -315,14 +290,13 @@ pub fn put_key(s: &mut [i64], n: usize, i: usize, key: usize)
     cells::note(s, n, cells::HKEY, i, key);
 }
 
-// Row `i`, which has moved to the front of its place what it keeps, gets its list, its degree and its bucket.
-pub fn relist(lists: &mut [i64], s: &mut [i64], n: usize, me: usize, i: usize, k: Kept)
-    requires { ⌜ Room n (now s) × Rows n (now lists) × (me < n) × (i < n) × Small k ⌝ }
-    ensures { λ _. ⌜ (now (lists .exit) ≡ turned me (rd n 0 (now (s .entry)) i) (k .elements) (k .cnt) (now (lists .entry))) × (now (s .exit) ≡ relisted n i k (now (s .entry))) × Room n (now (s .exit)) × Rows n (now (lists .exit)) ⌝ }
+// Row `i`, which has moved to the front of its place `p` what it keeps, gets its list, its degree and its bucket.
+pub fn relist(lists: &mut [i64], s: &mut [i64], n: usize, me: usize, i: usize, p: usize, k: Kept)
+    requires { ⌜ Room n (now s) × Rows n (now lists) × (me < n) × (i < n) × (p ≤ k .elements) × (k .elements ≤ k .end) × (k .end < length (now lists)) ⌝ }
+    ensures { λ _. ⌜ (now (lists .exit) ≡ turned me p (k .elements) (k .end) (now (lists .entry))) × (now (s .exit) ≡ relisted n i p k (now (s .entry))) × Room n (now (s .exit)) × Rows n (now (lists .exit)) ⌝ }
 {
-    let p = cells::get(s, n, cells::PE, i);
-    turn_list(lists, n, me, p, k.elements, k.cnt);
-    finish_list(s, n, i, k.elements, k.cnt);
+    turn_list(lists, n, me, p, k.elements, k.end);
+    finish_list(s, n, i, k.elements - p, k.end - p);
     lower_degree(s, n, i, k.deg);
     let key = key_of(n, k.sum);
     put_key(s, n, i, key);
@@ -330,7 +304,34 @@ pub fn relist(lists: &mut [i64], s: &mut [i64], n: usize, me: usize, i: usize, k
 
 // ---- the rows of the new element
 
-// Row `i`.
+// Row `i`, whose list of `len` cells from `p` on, `elen` of them elements, is there. What it keeps is fewer, so that there is a cell behind it: that is asked once, too.
+pub fn update_inside(
+    lists: &mut [i64],
+    s: &mut [i64],
+    n: usize,
+    me: usize,
+    i: usize,
+    p: usize,
+    elen: usize,
+    len: usize,
+    flag: usize,
+    aggressive: bool,
+    t: Merged,
+) -> Merged
+    requires { ⌜ Room n (now s) × Rows n (now lists) × (me < n) × (i < n) × (elen ≤ len) × (p + len ≤ length (now lists)) × Few t ⌝ }
+    ensures { λ r. ⌜ (trimming (now (lists .exit)) (now (s .exit)) r ≡ settled n me i p (keptAll n me flag aggressive p elen len (now (lists .entry)) (now (s .entry))) t) × Room n (now (s .exit)) × Rows n (now (lists .exit)) × Few r ⌝ }
+{
+    let k = keep_all(lists, s, n, me, p, elen, len, flag, aggressive);
+    if k.end <= p {
+        return mass_eliminate(s, n, me, i, t);
+    }
+    if k.end < lists.len() {
+        relist(lists, s, n, me, i, p, k);
+    }
+    t
+}
+
+// Row `i`. Whether its list is there is asked once.
 pub fn update_variable(
     lists: &mut [i64],
     s: &mut [i64],
@@ -344,13 +345,15 @@ pub fn update_variable(
     requires { ⌜ Room n (now s) × Rows n (now lists) × (me < n) × (i < n) × Few t ⌝ }
     ensures { λ r. ⌜ (trimming (now (lists .exit)) (now (s .exit)) r ≡ updated n me flag aggressive i (trimming (now (lists .entry)) (now (s .entry)) t)) × Room n (now (s .exit)) × Rows n (now (lists .exit)) × Few r ⌝ }
 {
-    let k = keep_all(lists, s, n, me, i, flag, aggressive);
-    if 0 < k.cnt {
-        relist(lists, s, n, me, i, k);
-        t
-    } else {
-        mass_eliminate(s, n, me, i, t)
+    let p = cells::get(s, n, cells::PE, i);
+    let elen = cells::get(s, n, cells::ELEN, i);
+    let len = cells::get(s, n, cells::LEN, i);
+    if elen <= len {
+        if p + len <= lists.len() {
+            return update_inside(lists, s, n, me, i, p, elen, len, flag, aggressive, t);
+        }
     }
+    t
 }
 
 // The row in cell `q` of the lists.

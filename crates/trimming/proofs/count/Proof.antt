@@ -19,4 +19,5 @@ returns : tie.Need-returns
 returns c = search (needs, count-step)
 
 pub count-spec : {M : Type 1} → statement M
-count-spec = tie.close (tie.spec wrapping-add-usize-requires wrapping-add-usize-requires-2 add-t6 returns)
+count-spec =
+    tie.close (tie.spec wrapping-add-usize-requires wrapping-add-usize-requires-2 add-t6 returns)

@@ -4,22 +4,17 @@ use Rattle.trimming.proofs.keep_all.Statement.{statement}
 use Rattle.trimming.proofs.keep_all.Tie as tie
 use Rattle.trimming.proofs.keep_all.Reads as reads
 use Rattle.trimming.proofs.keep_all.Lts as lts
-use Rattle.cells.proofs.get.Reads as get-reads
-use Rattle.packed.proofs.own_part.Reads as own-part-reads
 use Rattle.trimming.proofs.keep_elements.Reads as keep-elements-reads
 use Rattle.trimming.proofs.keep_variables.Reads as keep-variables-reads
 
-own-part-requires : tie.Need-own-part-requires
-own-part-requires c κs = search needs
-
-get-requires : tie.Need-get-requires
-get-requires c κs = search needs
-
-get-requires-2 : tie.Need-get-requires-2
-get-requires-2 c κs = search needs
-
 keep-elements-requires : tie.Need-keep-elements-requires
 keep-elements-requires c κs = search needs
+
+add-keep-variables : tie.Need-add-keep-variables
+add-keep-variables c = search needs
+
+sub-keep-variables : tie.Need-sub-keep-variables
+sub-keep-variables c = search needs
 
 keep-variables-requires : tie.Need-keep-variables-requires
 keep-variables-requires c κs = search needs
@@ -37,10 +32,9 @@ pub keep-all-spec : {M : Type 1} → statement M
 keep-all-spec =
     tie.close
     (tie.spec
-    own-part-requires
-    get-requires
-    get-requires-2
     keep-elements-requires
+    add-keep-variables
+    sub-keep-variables
     keep-variables-requires
     same-length
     same-length-2

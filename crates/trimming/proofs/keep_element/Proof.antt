@@ -4,8 +4,8 @@ use Rattle.trimming.proofs.keep_element.Statement.{statement}
 use Rattle.trimming.proofs.keep_element.Tie as tie
 use Rattle.trimming.proofs.keep_element.Reads as reads
 use Rattle.trimming.proofs.keep_element.Lts as lts
-use Rattle.cells.proofs.row.Reads as row-reads
 use Rattle.cells.proofs.get.Reads as get-reads
+use Rattle.cells.proofs.row.Reads as row-reads
 use Rattle.trimming.proofs.keep_live.Reads as keep-live-reads
 
 row-requires : tie.Need-row-requires
@@ -15,7 +15,8 @@ get-requires : tie.Need-get-requires
 get-requires c κs = search needs
 
 keep-live-requires : tie.Need-keep-live-requires
-keep-live-requires c κs = search needs
+-- by parts: the search for all of them at once breaks off
+keep-live-requires c κs = (search needs, search needs, search needs, search needs, search needs)
 
 same-length : tie.Need-same-length
 same-length c = search needs

@@ -1,28 +1,24 @@
+use borrow.Author.Needs.{needs}
 use Prim.Native.Nat.{_+_, _≤_, _-_}
 use mathlib.Core.Path.{_≡_}
-use borrow.Author.Needs.{needs}
 use lib.ListN.{length}
 use Rattle.plain.proofs.Turns.{begin, turn}
 use Rattle.plain.specs.Turns.{Turned}
 use Rattle.cells.specs.Rows.{Rows}
 use Rattle.cells.specs.View.{Room}
-use Rattle.trimming.specs.Model.{Small, keeping, keptElement, nothing}
+use Rattle.trimming.specs.Model.{keeping, keptElement, nothing}
 use Rattle.trimming.proofs.Steps.{elements-end}
 use Rattle.trimming.proofs.keep_elements.Statement.{statement}
 use Rattle.trimming.proofs.keep_elements.Tie as tie
 use Rattle.trimming.proofs.keep_elements.Reads as reads
 use Rattle.trimming.proofs.keep_elements.Lts as lts
-use Rattle.cells.proofs.clip.Reads as clip-reads
 use Rattle.trimming.proofs.keep_element.Reads as keep-element-reads
 
 abbrev Inv-loop : tie.InvT-loop
-Inv-loop lists₀ s₀ n me p len flag aggressive turns k₀ t₀ lists s k t = Turned (λ j m. keptElement n me flag aggressive (p + j) (p + m .kept .cnt) m) (keeping lists₀ s₀ nothing) t (keeping lists s k) × (length lists ≡ length lists₀) × (length s ≡ length s₀) × Room n s × Rows n lists × Small k × (k .cnt ≤ t) × (t ≤ turns)
+Inv-loop lists₀ s₀ n me p len flag aggressive k₀ t₀ lists s k t = Turned (λ j. keptElement n me flag aggressive (p + j)) (keeping lists₀ s₀ (nothing p)) t (keeping lists s k) × (length lists ≡ length lists₀) × (length s ≡ length s₀) × Room n s × Rows n lists × (p ≤ k .end) × (k .end ≤ p + t) × (t ≤ len)
 
 abbrev μ-loop : tie.MeasureT-loop
-μ-loop lists₀ s₀ n me p len flag aggressive turns k₀ t₀ lists s k t = turns - t
-
-clip-requires : tie.Need-clip-requires Inv-loop μ-loop
-clip-requires c κs = search needs
+μ-loop lists₀ s₀ n me p len flag aggressive k₀ t₀ lists s k t = len - t
 
 loop-holds : tie.Need-loop-holds Inv-loop μ-loop
 loop-holds c = search (needs, begin)
@@ -30,12 +26,8 @@ loop-holds c = search (needs, begin)
 add-keep-element : tie.Need-add-keep-element Inv-loop μ-loop
 add-keep-element c = search needs
 
-add-keep-element-2 : tie.Need-add-keep-element-2 Inv-loop μ-loop
-add-keep-element-2 c = search needs
-
 keep-element-requires : tie.Need-keep-element-requires Inv-loop μ-loop
--- by parts: the search for all of them at once breaks off
-keep-element-requires c κs = (search needs, search needs, search needs, search needs, search needs, search needs)
+keep-element-requires c κs = search needs
 
 add-t : tie.Need-add-t Inv-loop μ-loop
 add-t c = search needs
@@ -44,7 +36,7 @@ loop-less : tie.Need-loop-less Inv-loop μ-loop
 loop-less c = search needs
 
 loop-again : tie.Need-loop-again Inv-loop μ-loop
-loop-again c = (search (needs, turn), search needs, search needs, search needs, search needs, search needs, search needs, search needs)
+loop-again c = search (needs, turn)
 
 same-length : tie.Need-same-length Inv-loop μ-loop
 same-length c = search needs
@@ -61,10 +53,8 @@ keep-elements-spec =
     (tie.spec
     Inv-loop
     μ-loop
-    clip-requires
     loop-holds
     add-keep-element
-    add-keep-element-2
     keep-element-requires
     add-t
     loop-less

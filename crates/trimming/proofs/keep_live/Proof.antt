@@ -1,5 +1,5 @@
-use borrow.Author.Needs.{needs}
 use Rattle.trimming.proofs.Steps.{live-above, live-at, live-no}
+use borrow.Author.Needs.{needs}
 use Rattle.trimming.proofs.keep_live.Statement.{statement}
 use Rattle.trimming.proofs.keep_live.Tie as tie
 use Rattle.trimming.proofs.keep_live.Reads as reads

@@ -4,8 +4,8 @@ use Rattle.trimming.proofs.keep_variable.Statement.{statement}
 use Rattle.trimming.proofs.keep_variable.Tie as tie
 use Rattle.trimming.proofs.keep_variable.Reads as reads
 use Rattle.trimming.proofs.keep_variable.Lts as lts
-use Rattle.cells.proofs.row.Reads as row-reads
 use Rattle.cells.proofs.get.Reads as get-reads
+use Rattle.cells.proofs.row.Reads as row-reads
 use Rattle.trimming.proofs.keep_entry.Reads as keep-entry-reads
 
 row-requires : tie.Need-row-requires
