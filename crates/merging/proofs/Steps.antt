@@ -90,10 +90,15 @@ module _ (l : List ℤ) (n k i : ℕ) (s : List ℤ) (t : Tally) (b : ℕ) (hb :
   unfolding mergedAt
   at-no h = rw (← hb, le-ltb b n h)
 
-pub key-step : (l : List ℤ) (n k key : ℕ) (s : List ℤ) (t : Tally) (first : ℕ) (r : List ℤ) (y : Merging) → first ≡ rd n HHEAD s key → r ≡ up n HHEAD s key n
-    → y ≡ bucketRun l n k k first (merging r t) → y ≡ mergedKey l n k key (merging s t)
-unfolding mergedKey
-key-step l n k key s t first r y hf hr hy = rw (← hf, ← hr) hy
+module _ (l : List ℤ) (n k key : ℕ) (s : List ℤ) (t : Tally) where
+  pub key-yes : (first : ℕ) (r : List ℤ) (y : Merging) → first ≡ rd n HHEAD s key → r ≡ up n HHEAD s key n → y ≡ bucketRun l n k k first (merging r t) → key < n
+      → y ≡ mergedKey l n k key (merging s t)
+  unfolding mergedKey
+  key-yes first r y hf hr hy h = rw (lt-ltb key n h, ← hf, ← hr) hy
+
+  pub key-no : n ≤ key → merging s t ≡ mergedKey l n k key (merging s t)
+  unfolding mergedKey
+  key-no h = rw (le-ltb key n h)
 
 module _ (l : List ℤ) (n k q : ℕ) (s : List ℤ) (t : Tally) (i w : ℕ) (hi : i ≡ at l q) (hw : w ≡ rd n NV s i) where
   pub row-yes : (key : ℕ) (y : Merging) → key ≡ rd n HKEY s i → y ≡ mergedKey l n k key (merging s t) → 0 < w → y ≡ mergedRow l n k q (merging s t)

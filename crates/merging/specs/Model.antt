@@ -132,8 +132,9 @@ bucketRun l n k (suc c) i m = cond (ltb i n) (bucketRun l n k c (rd n HNEXT (mer
 
 -- ---- all buckets
 
+-- the bucket of a key, if there is one
 unfoldable pub mergedKey : List ℤ → ℕ → ℕ → ℕ → Merging → Merging
-mergedKey l n k key m = bucketRun l n k k (rd n HHEAD (m .mem) key) (merging (up n HHEAD (m .mem) key n) (m .tally))
+mergedKey l n k key m = cond (ltb key n) (bucketRun l n k k (rd n HHEAD (m .mem) key) (merging (up n HHEAD (m .mem) key n) (m .tally))) m
 
 -- the bucket of row i, if it is still there
 unfoldable pub mergedOf : List ℤ → ℕ → ℕ → ℕ → Merging → Merging

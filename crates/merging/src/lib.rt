@@ -262,14 +262,18 @@ fn merge_bucket(
 
 // ---- all buckets
 
-// The bucket of `key` is emptied, and its rows compared.
+// The bucket of `key` is emptied, and its rows compared, if there is such a bucket.
 fn merge_key(lists: &[i64], s: &mut [i64], n: usize, key: usize, k: usize, t: Tally) -> Tally
     requires { ⌜ Room n (now s) × Rows n (now lists) × Bounded t ⌝ }
     ensures { λ r. ⌜ (merging (now (s .exit)) r ≡ mergedKey (now (lists .entry)) n k key (merging (now (s .entry)) t)) × Room n (now (s .exit)) × Bounded r ⌝ }
 {
-    let first = cells::tab(s, n, cells::HHEAD, key);
-    cells::put(s, n, cells::HHEAD, key, n);
-    merge_bucket(lists, s, n, first, k, t)
+    if key < n {
+        let first = cells::look(s, n, cells::HHEAD, key);
+        cells::note(s, n, cells::HHEAD, key, n);
+        merge_bucket(lists, s, n, first, k, t)
+    } else {
+        t
+    }
 }
 
 // The bucket of the row in cell `q` of the lists, if that row is still there.
