@@ -55,6 +55,7 @@ module _ (n : ℕ) (l : List ℤ) (p : ℕ) (new : List ℕ) (cnt base lim : ℕ
     pub light : (v : ℕ) → hasWeight g v ≡ false → hasWeight (mergeBuckets oneKey place vs ks g) v ≡ false
     pub below : (y : ℕ) → y < n → rd n W (m .mem) y < m .tally .flag
     pub flags : m .tally .flag ≤ flag₀ + total (counted place ks) vs
+    pub rises : flag₀ ≤ m .tally .flag
     pub seen : (v : ℕ) → In v done → In v vs → In (place v) ks
 
   module _ (distinct : Distinct new) (dv : Distinct vs) (k : ℕ) (enough : length vs ≤ k) (small : flag₀ + length vs + length vs < 2 ^ 63)
@@ -80,6 +81,7 @@ module _ (n : ℕ) (l : List ℤ) (p : ℕ) (new : List ℕ) (cnt base lim : ℕ
           light = r .light;
           below = r .below;
           flags = r .flags;
+          rises = r .rises;
           seen = done-more ks (λ x z. z) a;
         }
 
@@ -139,6 +141,7 @@ module _ (n : ℕ) (l : List ℤ) (p : ℕ) (new : List ℕ) (cnt base lim : ℕ
             light = r .light;
             below = w .below;
             flags = omega (arith, w .flags, r .flags);
+            rises = omega (arith, w .rises, r .rises);
             seen = done-more ks (λ x q. q) (λ _. rw is z);
           }
 
@@ -194,6 +197,7 @@ module _ (n : ℕ) (l : List ℤ) (p : ℕ) (new : List ℕ) (cnt base lim : ℕ
             light = λ x e. rw more-after (light-all oneKey x (bucketOf place vs κ) (after ks) (r .light x e));
             below = w .below;
             flags = omega (arith, w .flags, r .flags, counted-more place vs ks κ z);
+            rises = omega (arith, w .rises, r .rises);
             seen = done-more (ks ++ (κ ∷ [])) still-in (λ _. rw is (member-last κ ks));
           }
 
@@ -213,7 +217,7 @@ module _ (n : ℕ) (l : List ℤ) (p : ℕ) (new : List ℕ) (cnt base lim : ℕ
 
       is-key : hasWeight (after ks) v ≡ true → mergedOf l n k v (merging s t) ≡ bucketRun l n k k (rd n HHEAD s (place v)) (merging (up n HHEAD s (place v) n) t)
       unfolding mergedOf mergedKey
-      is-key e = rw (weighs, e, r .keys v (compared e))
+      is-key e = rw (weighs, e, r .keys v (compared e), lt-ltb (place v) n (placed v (compared e)))
 
       is-none : hasWeight (after ks) v ≡ false → mergedOf l n k v (merging s t) ≡ merging s t
       unfolding mergedOf

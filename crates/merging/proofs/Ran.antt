@@ -5,11 +5,11 @@ use native.Mathlib.Omega.{arith}
 use mathlib.Core.Bool.{Bool, true, false, not}
 use mathlib.Core.List.{List, [], _∷_, foldl}
 use mathlib.Core.Path.{_∙_, _≡_, ap, refl, sym}
-use borrow.Author.Tests.{le-ltb, lt-ltb}
+use borrow.Author.Tests.{lt-ltb}
 use lib.IntN.{ℤ}
 use lib.ListN.{length}
 use Rattle.plain.proofs.Logic.{clash, either}
-use Rattle.plain.proofs.Members.{keep-same, kept-passes, kept-was, member-here, member-there, no-member, not-here, not-there}
+use Rattle.plain.proofs.Members.{keep-same, kept-passes, kept-was, member-here, member-there, not-here, not-there}
 use Rattle.plain.proofs.Repeats.{distinct-keep, length-keep}
 use Rattle.plain.specs.Lists.{keep, member}
 use Rattle.plain.specs.Members.{Distinct, In}
@@ -28,7 +28,7 @@ use Rattle.merging.proofs.Kept.{Kept, entries-row, kept-fewer, kept-sel
 use Rattle.merging.proofs.Marks.{held-inside, held-rest, mark-below, mark-higher, markAll, marking-all, marks, marks-field, miss}
 use Rattle.merging.proofs.Rows.{held, marks-now}
 use Rattle.merging.proofs.Walked.{Behind, Walked, oneKey, walked as along}
-use Rattle.merging.proofs.Walks.{run-over}
+use Rattle.merging.proofs.Walks.{run-alone, run-over}
 
 module _ (n : ℕ) (l : List ℤ) (p : ℕ) (new : List ℕ) (cnt base lim : ℕ) where
   -- before a bucket: its rows are vs
@@ -74,7 +74,7 @@ module _ (n : ℕ) (l : List ℤ) (p : ℕ) (new : List ℕ) (cnt base lim : ℕ
         marking-all l n (t .flag) (rd n PE s i + 1) (rd n LEN s i - 1) s (held-inside n l s h i (held s h (r .now) i ri))
         ∙ ap (λ (xs : List ℕ). markAll n (t .flag) xs s) (held-rest n l s h i (held s h (r .now) i ri))
 
-    behind : Behind n l p new cnt base lim i (t .flag) sₘ h i (rd n HNEXT sₘ i) (t .logged) js
+    behind : Behind n l p new cnt base lim i (t .flag) sₘ h i (rd n HNEXT s i) (t .logged) js
     behind =
         record {
           now = marks-now (t .flag) (entriesOf h i) s h (r .now);
@@ -83,27 +83,26 @@ module _ (n : ℕ) (l : List ℤ) (p : ℕ) (new : List ℕ) (cnt base lim : ℕ
           distinct = r .distinct .1;
           other = r .distinct .0;
           marked = marks n (t .flag) (entriesOf h i) s (r .now .drawn .space .room) (r .below);
-          chain = rw (marks-field n (t .flag) HNEXT refl (entriesOf h i) s i)
-              (chain-same n (rd n HNEXT s) (rd n HNEXT sₘ) js (rd n HNEXT s i) (λ v m. marks-field n (t .flag) HNEXT refl (entriesOf h i) s v) (r .chain .2));
+          chain = chain-same n (rd n HNEXT s) (rd n HNEXT sₘ) js (rd n HNEXT s i) (λ v m. marks-field n (t .flag) HNEXT refl (entriesOf h i) s v) (r .chain .2);
           small = ri .below;
           before = r .distinct .0;
-          link = refl;
+          link = marks-field n (t .flag) HNEXT refl (entriesOf h i) s i;
         }
 
     abbrev mᵢ : Comparing
-    mᵢ = followers l n i (t .flag) k (comparing sₘ (record { last = i; next = rd n HNEXT sₘ i; logged = t .logged }))
+    mᵢ = followers l n i (t .flag) k (comparing sₘ (record { last = i; next = rd n HNEXT s i; logged = t .logged }))
 
     w : Walked n l p new cnt base lim i (t .flag) sₘ h i js mᵢ
-    w = along n l p new cnt base lim i (t .flag) once js k sₘ h i (rd n HNEXT sₘ i) (t .logged) enough behind
+    w = along n l p new cnt base lim i (t .flag) once js k sₘ h i (rd n HNEXT s i) (t .logged) enough behind
 
-    is-at : rd n HNEXT s i < n → mergedAt l n k i (merging s t) ≡ flagged (walked (t .flag) mᵢ)
+    is-at : mergedAt l n k i (rd n HNEXT s i) (merging s t) ≡ flagged (walked (t .flag) mᵢ)
     unfolding mergedAt mergedInto
-    is-at a = rw (lt-ltb (rd n HNEXT s i) n a, is-marked)
+    is-at = rw is-marked
 
-    took-some : rd n HNEXT s i < n → Took s h i js t (mergedAt l n k i (merging s t))
-    took-some a =
+    took : Took s h i js t (mergedAt l n k i (rd n HNEXT s i) (merging s t))
+    took =
         let f : plus (t .flag) 1 ≡ t .flag + 1 = plus-sum (t .flag) 1 (omega (arith, r .room)) in
-        rw (is-at a)
+        rw is-at
         record {
           left = record {
             now = w .now;
@@ -125,31 +124,6 @@ module _ (n : ℕ) (l : List ℤ) (p : ℕ) (new : List ℕ) (cnt base lim : ℕ
               let z : In v js = kept-was v (λ j. not (sameLists h i j)) js m in
               w .keeps v (r .rows v (member-there v i js z)) (λ _. not-kept (sameLists h i v) (kept-passes v (λ j. not (sameLists h i j)) js m));
         }
-
-  -- nobody is behind it
-  took-none : (k : ℕ) (s : List ℤ) (h : Graph) (x i : ℕ) (t : Tally) → Ready s h x (i ∷ []) t → Took s h i [] t (mergedAt l n k i (merging s t))
-  unfolding mergedAt keep
-  took-none k s h x i t r =
-      rw (le-ltb (rd n HNEXT s i) n (omega (arith, r .chain .2)))
-      record {
-        left = record {
-          now = r .now;
-          next = λ v e. refl;
-          heads = λ κ. refl;
-          kept = kept-self n (i ∷ []) h s;
-          below = r .below;
-          flags = omega arith;
-          rises = omega arith;
-          keeps = λ v q e. q;
-        };
-        chain = r .chain .2;
-        rows = λ v m. no-member v m;
-      }
-
-  took : Distinct new → (k : ℕ) (s : List ℤ) (h : Graph) (x i : ℕ) (js : List ℕ) (t : Tally) → Ready s h x (i ∷ js) t → length js ≤ k
-      → Took s h i js t (mergedAt l n k i (merging s t))
-  took once k s h x i [] t r e = took-none k s h x i t r
-  took once k s h x i (j ∷ js) t r e = took-some once k s h x i (j ∷ js) t r e (omega (arith, r .chain .2 .0, r .chain .2 .1))
 
   -- ---- the definition: the first row takes those that have its list, they leave, and the rest is compared
 
@@ -202,9 +176,10 @@ module _ (n : ℕ) (l : List ℤ) (p : ℕ) (new : List ℕ) (cnt base lim : ℕ
             keeps = λ v q e. w .keeps v (k .left .keeps v q e) (out-of-rest v e);
           }
 
-  run-one : (k c i : ℕ) (m : Merging) → i < n → bucketRun l n k (suc c) i m ≡ bucketRun l n k c (rd n HNEXT (mergedAt l n k i m .mem) i) (mergedAt l n k i m)
+  run-one : (k c i x : ℕ) (m : Merging) → x ≡ rd n HNEXT (m .mem) i → i < n → x < n
+      → bucketRun l n k (suc c) i m ≡ bucketRun l n k c (rd n HNEXT (mergedAt l n k i x m .mem) i) (mergedAt l n k i x m)
   unfolding bucketRun
-  run-one k c i m a = rw (lt-ltb i n a)
+  run-one k c i x m h a b = rw (← h, lt-ltb i n a, lt-ltb x n b)
 
   none-merged : (h : Graph) → mergeAll oneKey [] h ≡ h
   unfolding mergeAll
@@ -224,6 +199,23 @@ module _ (n : ℕ) (l : List ℤ) (p : ℕ) (new : List ℕ) (cnt base lim : ℕ
         keeps = λ v q e. q;
       }
 
+  -- nobody is behind the first row
+  ran-alone : (k c : ℕ) (s : List ℤ) (h : Graph) (x i : ℕ) (t : Tally) → Ready s h x (i ∷ []) t
+      → Left s h (i ∷ []) t (mergeAll oneKey (i ∷ []) h) 1 (bucketRun l n k c x (merging s t))
+  unfolding keep
+  ran-alone k c s h x i t r =
+      rw (r .chain .0, run-alone l n k 0 0 (merging s t) c i (merging s t) (omega (arith, r .chain .2)), split-all s h x i [] t r, none-merged h)
+      record {
+        now = r .now;
+        next = λ v e. refl;
+        heads = λ κ. refl;
+        kept = kept-self n (i ∷ []) h s;
+        below = r .below;
+        flags = omega arith;
+        rises = omega arith;
+        keeps = λ v q e. q;
+      }
+
   -- the buckets of at most c rows
   abbrev Runs : ℕ → ℕ → Type 0
   Runs k c = (vs : List ℕ) (s : List ℤ) (h : Graph) (x : ℕ) (t : Tally) → length vs ≤ c → length vs ≤ k → Ready s h x vs t
@@ -233,17 +225,23 @@ module _ (n : ℕ) (l : List ℤ) (p : ℕ) (new : List ℕ) (cnt base lim : ℕ
   runs-none k [] s h x t a b r = ran-none k 0 s h x t r
   runs-none k (i ∷ js) s h x t a b r = absurd (omega arith)
 
+  -- somebody is behind it
+  runs-on : Distinct new → (k c : ℕ) → Runs k c → (i : ℕ) (js : List ℕ) (s : List ℤ) (h : Graph) (x : ℕ) (t : Tally) → length js ≤ c → length js ≤ k → Ready s h x (i ∷ js) t
+      → rd n HNEXT s i < n → Left s h (i ∷ js) t (mergeAll oneKey (i ∷ js) h) (length (i ∷ js)) (bucketRun l n k (suc c) x (merging s t))
+  runs-on once k c f i js s h x t a b r y =
+      let fewer = rest-fewer s h x i js t r in
+      let m = mergedAt l n k i (rd n HNEXT s i) (merging s t) in
+      let w = took once k s h x i js t r b in
+      rw (r .chain .0, run-one k c i (rd n HNEXT s i) (merging s t) refl (r .chain .1) y, split-all s h x i js t r)
+      (joint s h x i js t r m w (mergeAll oneKey (keep (λ j. not (sameLists h i j)) js) (foldl (mergeOne oneKey i) h js)) (bucketRun l n k c (rd n HNEXT (m .mem) i) m)
+      (f (keep (λ j. not (sameLists h i j)) js) (m .mem) (foldl (mergeOne oneKey i) h js) (rd n HNEXT (m .mem) i) (m .tally) (omega arith) (omega arith)
+      (again s h x i js t r m w)))
+
   runs-more : Distinct new → (k c : ℕ) → Runs k c → Runs k (suc c)
   runs-more once k c f [] s h x t a b r = ran-none k (suc c) s h x t r
-  runs-more once k c f (i ∷ js) s h x t a b r =
-      let fewer = rest-fewer s h x i js t r in
-      let w = took once k s h x i js t r (omega arith) in
-      rw (r .chain .0, run-one k c i (merging s t) (r .chain .1), split-all s h x i js t r)
-      (joint s h x i js t r (mergedAt l n k i (merging s t)) w (mergeAll oneKey (keep (λ j. not (sameLists h i j)) js) (foldl (mergeOne oneKey i) h js))
-      (bucketRun l n k c (rd n HNEXT (mergedAt l n k i (merging s t) .mem) i) (mergedAt l n k i (merging s t)))
-      (f (keep (λ j. not (sameLists h i j)) js) (mergedAt l n k i (merging s t) .mem) (foldl (mergeOne oneKey i) h js)
-      (rd n HNEXT (mergedAt l n k i (merging s t) .mem) i) (mergedAt l n k i (merging s t) .tally) (omega arith) (omega arith)
-      (again s h x i js t r (mergedAt l n k i (merging s t)) w)))
+  runs-more once k c f (i ∷ []) s h x t a b r = ran-alone k (suc c) s h x i t r
+  runs-more once k c f (i ∷ (j ∷ js)) s h x t a b r =
+      runs-on once k c f i (j ∷ js) s h x t (omega arith) (omega arith) r (omega (arith, r .chain .2 .0, r .chain .2 .1))
 
   -- K-b in memory: the bucket
   pub ran : Distinct new → (k c : ℕ) (vs : List ℕ) (s : List ℤ) (h : Graph) (x : ℕ) (t : Tally) → length vs ≤ c → length vs ≤ k → Ready s h x vs t

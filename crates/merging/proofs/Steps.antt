@@ -80,20 +80,21 @@ module _ (l : List ℤ) (n i flag : ℕ) (s : List ℤ) (w : Walk) (next : ℕ) 
   unfolding compared passedNext
   compare-no e = rw (← hb, e, ← hn)
 
-module _ (l : List ℤ) (n k i : ℕ) (s : List ℤ) (t : Tally) (b : ℕ) (hb : b ≡ rd n HNEXT s i) where
-  pub at-yes : (r u : List ℤ) (log flag : ℕ) → r ≡ markedList l n (t .flag) i s → merging u (record { flag = t .flag; logged = log }) ≡ mergedInto l n k i (merging r t)
-      → flag ≡ plus (t .flag) 1 → b < n → merging u (record { flag = flag; logged = log }) ≡ mergedAt l n k i (merging s t)
-  unfolding mergedAt
-  at-yes r u log flag hr hu hf h = rw (← hb, lt-ltb b n h, ← hr, ← hu, hf)
+pub at-step : (l : List ℤ) (n k i x : ℕ) (s : List ℤ) (t : Tally) (r u : List ℤ) (log flag : ℕ) → r ≡ markedList l n (t .flag) i s
+    → merging u (record { flag = t .flag; logged = log }) ≡ mergedInto l n k i x (merging r t) → flag ≡ plus (t .flag) 1
+    → merging u (record { flag = flag; logged = log }) ≡ mergedAt l n k i x (merging s t)
+unfolding mergedAt
+at-step l n k i x s t r u log flag hr hu hf = rw (← hr, ← hu, hf)
 
-  pub at-no : n ≤ b → merging s t ≡ mergedAt l n k i (merging s t)
-  unfolding mergedAt
-  at-no h = rw (← hb, le-ltb b n h)
+module _ (l : List ℤ) (n k key : ℕ) (s : List ℤ) (t : Tally) where
+  pub key-yes : (first : ℕ) (r : List ℤ) (y : Merging) → first ≡ rd n HHEAD s key → r ≡ up n HHEAD s key n → y ≡ bucketRun l n k k first (merging r t) → key < n
+      → y ≡ mergedKey l n k key (merging s t)
+  unfolding mergedKey
+  key-yes first r y hf hr hy h = rw (lt-ltb key n h, ← hf, ← hr) hy
 
-pub key-step : (l : List ℤ) (n k key : ℕ) (s : List ℤ) (t : Tally) (first : ℕ) (r : List ℤ) (y : Merging) → first ≡ rd n HHEAD s key → r ≡ up n HHEAD s key n
-    → y ≡ bucketRun l n k k first (merging r t) → y ≡ mergedKey l n k key (merging s t)
-unfolding mergedKey
-key-step l n k key s t first r y hf hr hy = rw (← hf, ← hr) hy
+  pub key-no : n ≤ key → merging s t ≡ mergedKey l n k key (merging s t)
+  unfolding mergedKey
+  key-no h = rw (le-ltb key n h)
 
 module _ (l : List ℤ) (n k q : ℕ) (s : List ℤ) (t : Tally) (i w : ℕ) (hi : i ≡ at l q) (hw : w ≡ rd n NV s i) where
   pub row-yes : (key : ℕ) (y : Merging) → key ≡ rd n HKEY s i → y ≡ mergedKey l n k key (merging s t) → 0 < w → y ≡ mergedRow l n k q (merging s t)

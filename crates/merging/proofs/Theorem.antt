@@ -21,7 +21,6 @@ use Rattle.plain.specs.Members.{Distinct, In}
 use Rattle.plain.specs.Turns.{entries}
 use Rattle.cells.proofs.Rows.{clipped-part}
 use Rattle.cells.specs.Layout.{HHEAD, HNEXT, LEN, MERGES, NV, PE, W}
-use Rattle.cells.specs.Rows.{clipped}
 use Rattle.cells.specs.View.{at, rd}
 use Rattle.definition.specs.Merge.{entriesOf, key, mergedAlike}
 use Rattle.definition.specs.State.{Graph, hasWeight, isElement, isVariable, kind, live, weight}
@@ -76,6 +75,7 @@ pub record Merged (n : ℕ) (l : List ℤ) (p : ℕ) (new : List ℕ) (cnt base 
   pub heads : (κ : ℕ) → κ < n → rd n HHEAD (m .mem) κ ≡ n
   pub below : (y : ℕ) → y < n → rd n W (m .mem) y < m .tally .flag
   pub flags : m .tally .flag ≤ flag + c
+  pub rises : flag ≤ m .tally .flag
   pub ms : List ℕ
   pub logged : Logged n (m .mem) h ms
   pub count : m .tally .logged ≡ length ms
@@ -123,6 +123,7 @@ module _ (n : ℕ) (l s : List ℤ) (keyOf : ℕ → ℕ) (g : Graph) (p : ℕ) 
         light = λ v e. e;
         below = a .below;
         flags = omega arith;
+        rises = omega arith;
         seen = λ v m z. no-member v m;
       }
 
@@ -154,6 +155,7 @@ module _ (n : ℕ) (l s : List ℤ) (keyOf : ℕ → ℕ) (g : Graph) (p : ℕ) 
           count = r .now .count;
           below = r .below;
           flags = omega (arith, r .flags, counted-all (key keyOf g) (newestFirst g new) ks);
+          rises = r .rises;
         }
 
   -- all rows, and what was kept on the way

@@ -9,9 +9,11 @@ use mathlib.Core.List.{List, [], _∷_, _++_}
 use mathlib.Core.Logic.{_≢_}
 use mathlib.Core.Path.{_∙_, _≡_, ap, refl, subst, sym}
 use borrow.Author.Tests.{eq-eqb, le-ltb, lt-ltb, ne-eqb}
+use lib.Dec.{ltb}
 use lib.IntN.{ℤ}
 use lib.ListN.{length}
 use Rattle.plain.proofs.Entries.{entries-snoc}
+use Rattle.plain.proofs.Logic.{cond-has}
 use Rattle.plain.specs.Lists.{every}
 use Rattle.plain.specs.Turns.{entries}
 use Rattle.cells.specs.Layout.{HNEXT, W}
@@ -99,16 +101,16 @@ at-last : (l : List ℤ) (n i flag k : ℕ) (m : Comparing) → k ≡ 0 → foll
 unfolding followers
 at-last l n i flag k m h = rw h
 
-module _ (l : List ℤ) (n k i : ℕ) (s : List ℤ) (t : Tally) (first : ℕ) (hf : first ≡ rd n HNEXT s i) (c : ℕ) (r : List ℤ) (w : Walk)
-    (h : Walking l n i (t .flag) k (comparing s (record { last = i; next = first; logged = t .logged })) c (comparing r w)) where
-  whole : followers l n i (t .flag) c (comparing r w) ≡ comparing r w → merging r (record { flag = t .flag; logged = w .logged }) ≡ mergedInto l n k i (merging s t)
+module _ (l : List ℤ) (n k i x : ℕ) (s : List ℤ) (t : Tally) (c : ℕ) (r : List ℤ) (w : Walk)
+    (h : Walking l n i (t .flag) k (comparing s (record { last = i; next = x; logged = t .logged })) c (comparing r w)) where
+  whole : followers l n i (t .flag) c (comparing r w) ≡ comparing r w → merging r (record { flag = t .flag; logged = w .logged }) ≡ mergedInto l n k i x (merging s t)
   unfolding mergedInto
-  whole e = rw (← hf, h .same, e)
+  whole e = rw (h .same, e)
 
-  pub walk-end : n ≤ w .next → merging r (record { flag = t .flag; logged = w .logged }) ≡ mergedInto l n k i (merging s t)
+  pub walk-end : n ≤ w .next → merging r (record { flag = t .flag; logged = w .logged }) ≡ mergedInto l n k i x (merging s t)
   walk-end a = whole (at-end l n i (t .flag) c (comparing r w) a)
 
-  pub walk-out : c ≡ 0 → merging r (record { flag = t .flag; logged = w .logged }) ≡ mergedInto l n k i (merging s t)
+  pub walk-out : c ≡ 0 → merging r (record { flag = t .flag; logged = w .logged }) ≡ mergedInto l n k i x (merging s t)
   walk-out a = whole (at-last l n i (t .flag) c (comparing r w) a)
 
 -- ---- the rows of a bucket
@@ -120,24 +122,36 @@ module _ (l : List ℤ) (n k c₀ i₀ : ℕ) (m₀ : Merging) where
   pub run-start : Running l n k c₀ i₀ m₀ c₀ i₀ m₀
   run-start = record { same = refl }
 
-  run-turn : (c i : ℕ) (m : Merging) → c ≢ 0 → i < n → bucketRun l n k c i m ≡ bucketRun l n k (c - 1) (rd n HNEXT (mergedAt l n k i m .mem) i) (mergedAt l n k i m)
+  run-turn : (c i x : ℕ) (m : Merging) → x ≡ rd n HNEXT (m .mem) i → c ≢ 0 → i < n → x < n
+      → bucketRun l n k c i m ≡ bucketRun l n k (c - 1) (rd n HNEXT (mergedAt l n k i x m .mem) i) (mergedAt l n k i x m)
   unfolding bucketRun
-  run-turn zero i m a b = absurd (a refl)
-  run-turn (suc c) i m a b = let e : c ≡ suc c - 1 = omega arith in rw (lt-ltb i n b, ← e)
+  run-turn zero i x m h a b d = absurd (a refl)
+  run-turn (suc c) i x m h a b d = let e : c ≡ suc c - 1 = omega arith in rw (← h, lt-ltb i n b, lt-ltb x n d, ← e)
 
   pub run-over : (c i : ℕ) (m : Merging) → n ≤ i → bucketRun l n k c i m ≡ m
   unfolding bucketRun
   run-over zero i m h = refl
   run-over (suc c) i m h = rw (le-ltb i n h)
 
+  -- nobody is behind
+  pub run-alone : (c i : ℕ) (m : Merging) → n ≤ rd n HNEXT (m .mem) i → bucketRun l n k c i m ≡ m
+  unfolding bucketRun
+  run-alone zero i m h = refl
+  run-alone (suc c) i m h = rw (le-ltb (rd n HNEXT (m .mem) i) n h) (cond-has (λ (r : Merging). r ≡ m) (ltb i n) (λ _. refl) (λ _. refl))
+
   run-last : (c i : ℕ) (m : Merging) → c ≡ 0 → bucketRun l n k c i m ≡ m
   unfolding bucketRun
   run-last c i m h = rw h
 
   module _ (c i : ℕ) (s : List ℤ) (t : Tally) (h : Running l n k c₀ i₀ m₀ c i (merging s t)) where
-    pub run-more : (r : List ℤ) (u : Tally) (next : ℕ) → merging r u ≡ mergedAt l n k i (merging s t) → next ≡ rd n HNEXT r i → c ≢ 0 → i < n
-        → Running l n k c₀ i₀ m₀ (c - 1) next (merging r u)
-    run-more r u next e hn a b = record { same = rw hn (h .same ∙ run-turn c i (merging s t) a b ∙ ap (λ (m : Merging). bucketRun l n k (c - 1) (rd n HNEXT (m .mem) i) m) (sym e)) }
+    module _ (x : ℕ) (hx : x ≡ rd n HNEXT s i) where
+      pub run-more : (r : List ℤ) (u : Tally) (next : ℕ) → merging r u ≡ mergedAt l n k i x (merging s t) → next ≡ rd n HNEXT r i → c ≢ 0 → i < n → x < n
+          → Running l n k c₀ i₀ m₀ (c - 1) next (merging r u)
+      run-more r u next e hn a b d =
+          record { same = rw hn (h .same ∙ run-turn c i x (merging s t) hx a b d ∙ ap (λ (m : Merging). bucketRun l n k (c - 1) (rd n HNEXT (m .mem) i) m) (sym e)) }
+
+      pub run-rest : n ≤ x → merging s t ≡ bucketRun l n k c₀ i₀ m₀
+      run-rest a = sym (h .same ∙ run-alone c i (merging s t) (rw hx at a))
 
     pub run-end : n ≤ i → merging s t ≡ bucketRun l n k c₀ i₀ m₀
     run-end a = sym (h .same ∙ run-over c i (merging s t) a)

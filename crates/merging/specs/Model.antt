@@ -111,29 +111,31 @@ followers l n i flag (suc k) m = cond (ltb (m .walk .next) n) (followers l n i f
 abbrev pub walked : ℕ → Comparing → Merging
 walked flag m = merging (m .mem) (record { flag = flag; logged = m .walk .logged })
 
-unfoldable pub mergedInto : List ℤ → ℕ → ℕ → ℕ → Merging → Merging
-mergedInto l n k i m =
-    walked (m .tally .flag)
-    (followers l n i (m .tally .flag) k (comparing (m .mem) (record { last = i; next = rd n HNEXT (m .mem) i; logged = m .tally .logged })))
+-- those behind i, from x on
+unfoldable pub mergedInto : List ℤ → ℕ → ℕ → ℕ → ℕ → Merging → Merging
+mergedInto l n k i x m =
+    walked (m .tally .flag) (followers l n i (m .tally .flag) k (comparing (m .mem) (record { last = i; next = x; logged = m .tally .logged })))
 
 -- one more flag is used
 abbrev pub flagged : Merging → Merging
 flagged m = merging (m .mem) (record { flag = plus (m .tally .flag) 1; logged = m .tally .logged })
 
--- row i takes those behind it that have its list
-unfoldable pub mergedAt : List ℤ → ℕ → ℕ → ℕ → Merging → Merging
-mergedAt l n k i m =
-    cond (ltb (rd n HNEXT (m .mem) i) n) (flagged (mergedInto l n k i (merging (markedList l n (m .tally .flag) i (m .mem)) (m .tally)))) m
+-- row i takes those behind it, from x on, that have its list
+unfoldable pub mergedAt : List ℤ → ℕ → ℕ → ℕ → ℕ → Merging → Merging
+mergedAt l n k i x m = flagged (mergedInto l n k i x (merging (markedList l n (m .tally .flag) i (m .mem)) (m .tally)))
 
--- the rows of a bucket from i on, at most c
+-- the rows of a bucket from i on, at most c, as long as there is anybody behind
 unfoldable pub bucketRun : List ℤ → ℕ → ℕ → ℕ → ℕ → Merging → Merging
 bucketRun l n k zero i m = m
-bucketRun l n k (suc c) i m = cond (ltb i n) (bucketRun l n k c (rd n HNEXT (mergedAt l n k i m .mem) i) (mergedAt l n k i m)) m
+bucketRun l n k (suc c) i m =
+    let m′ = mergedAt l n k i (rd n HNEXT (m .mem) i) m in
+    cond (ltb i n) (cond (ltb (rd n HNEXT (m .mem) i) n) (bucketRun l n k c (rd n HNEXT (m′ .mem) i) m′) m) m
 
 -- ---- all buckets
 
+-- the bucket of a key, if there is one
 unfoldable pub mergedKey : List ℤ → ℕ → ℕ → ℕ → Merging → Merging
-mergedKey l n k key m = bucketRun l n k k (rd n HHEAD (m .mem) key) (merging (up n HHEAD (m .mem) key n) (m .tally))
+mergedKey l n k key m = cond (ltb key n) (bucketRun l n k k (rd n HHEAD (m .mem) key) (merging (up n HHEAD (m .mem) key n) (m .tally))) m
 
 -- the bucket of row i, if it is still there
 unfoldable pub mergedOf : List ℤ → ℕ → ℕ → ℕ → Merging → Merging

@@ -189,15 +189,22 @@ fn compare_next(lists: &[i64], s: &mut [i64], n: usize, i: usize, flag: usize, w
     }
 }
 
-// Each row behind `i` in its bucket, at most `k`, that has the marked entries of `i` is merged into it. The result is how many merges are logged.
-fn merge_into(lists: &[i64], s: &mut [i64], n: usize, i: usize, k: usize, t: Tally) -> usize
-    requires { ⌜ Room n (now s) × Rows n (now lists) × (i < n) × Bounded t ⌝ }
-    ensures { λ r. ⌜ (merging (now (s .exit)) (record { flag = t .flag; logged = r }) ≡ mergedInto (now (lists .entry)) n k i (merging (now (s .entry)) t)) × Room n (now (s .exit)) × (r < 2 ^ 63) ⌝ }
+// Each row behind `i` in its bucket, from `behind` on and at most `k`, that has the marked entries of `i` is merged into it. The result is how many merges are logged.
+fn merge_into(
+    lists: &[i64],
+    s: &mut [i64],
+    n: usize,
+    i: usize,
+    behind: usize,
+    k: usize,
+    t: Tally,
+) -> usize
+    requires { ⌜ Room n (now s) × Rows n (now lists) × (i < n) × (behind < 2 ^ 63) × Bounded t ⌝ }
+    ensures { λ r. ⌜ (merging (now (s .exit)) (record { flag = t .flag; logged = r }) ≡ mergedInto (now (lists .entry)) n k i behind (merging (now (s .entry)) t)) × Room n (now (s .exit)) × (r < 2 ^ 63) ⌝ }
 {
-    let first = cells::look(s, n, cells::HNEXT, i);
     let mut w = Walk {
         last: i,
-        next: first,
+        next: behind,
         logged: t.logged,
     };
     let mut todo = k;
@@ -213,26 +220,29 @@ fn merge_into(lists: &[i64], s: &mut [i64], n: usize, i: usize, k: usize, t: Tal
     }
 }
 
-// Row `i` takes those behind it in its bucket that have its list; the flag is used up, if there is anybody behind it.
-fn merge_at(lists: &[i64], s: &mut [i64], n: usize, i: usize, k: usize, t: Tally) -> Tally
-    requires { ⌜ Room n (now s) × Rows n (now lists) × (i < n) × Bounded t ⌝ }
-    ensures { λ r. ⌜ (merging (now (s .exit)) r ≡ mergedAt (now (lists .entry)) n k i (merging (now (s .entry)) t)) × Room n (now (s .exit)) × Bounded r ⌝ }
+// Row `i` takes those behind it in its bucket, from `behind` on, that have its list; the flag is used up.
+fn merge_at(
+    lists: &[i64],
+    s: &mut [i64],
+    n: usize,
+    i: usize,
+    behind: usize,
+    k: usize,
+    t: Tally,
+) -> Tally
+    requires { ⌜ Room n (now s) × Rows n (now lists) × (i < n) × (behind < 2 ^ 63) × Bounded t ⌝ }
+    ensures { λ r. ⌜ (merging (now (s .exit)) r ≡ mergedAt (now (lists .entry)) n k i behind (merging (now (s .entry)) t)) × Room n (now (s .exit)) × Bounded r ⌝ }
 {
-    let behind = cells::look(s, n, cells::HNEXT, i);
-    if behind < n {
-        mark_entries(lists, s, n, i, t.flag);
-        let logged = merge_into(lists, s, n, i, k, t);
-        let flag = cells::plus(t.flag, 1);
-        Tally {
-            flag: flag,
-            logged: logged,
-        }
-    } else {
-        t
+    mark_entries(lists, s, n, i, t.flag);
+    let logged = merge_into(lists, s, n, i, behind, k, t);
+    let flag = cells::plus(t.flag, 1);
+    Tally {
+        flag: flag,
+        logged: logged,
     }
 }
 
-// A bucket from its newest row `first` on, at most `k` rows of it.
+// A bucket from its newest row `first` on, at most `k` rows of it, as long as there is anybody behind.
 fn merge_bucket(
     lists: &[i64],
     s: &mut [i64],
@@ -255,21 +265,29 @@ fn merge_bucket(
             break t;
         }
         todo -= 1;
-        t = merge_at(lists, s, n, i, k, t);
+        let behind = cells::look(s, n, cells::HNEXT, i);
+        if n <= behind {
+            break t;
+        }
+        t = merge_at(lists, s, n, i, behind, k, t);
         i = cells::look(s, n, cells::HNEXT, i);
     }
 }
 
 // ---- all buckets
 
-// The bucket of `key` is emptied, and its rows compared.
+// The bucket of `key` is emptied, and its rows compared, if there is such a bucket.
 fn merge_key(lists: &[i64], s: &mut [i64], n: usize, key: usize, k: usize, t: Tally) -> Tally
     requires { ⌜ Room n (now s) × Rows n (now lists) × Bounded t ⌝ }
     ensures { λ r. ⌜ (merging (now (s .exit)) r ≡ mergedKey (now (lists .entry)) n k key (merging (now (s .entry)) t)) × Room n (now (s .exit)) × Bounded r ⌝ }
 {
-    let first = cells::tab(s, n, cells::HHEAD, key);
-    cells::put(s, n, cells::HHEAD, key, n);
-    merge_bucket(lists, s, n, first, k, t)
+    if key < n {
+        let first = cells::look(s, n, cells::HHEAD, key);
+        cells::note(s, n, cells::HHEAD, key, n);
+        merge_bucket(lists, s, n, first, k, t)
+    } else {
+        t
+    }
 }
 
 // The bucket of the row in cell `q` of the lists, if that row is still there.

@@ -7,10 +7,10 @@ use mathlib.Core.List.{List, [], _∷_, flatMap, foldl}
 use mathlib.Core.Path.{_≡_, _∙_, ap, refl, sym}
 use borrow.Author.Tests.{le-leb, lt-leb, lt-ltb}
 use Rattle.plain.proofs.Logic.{either, or-cases, or-false-left, or-false-right, clash}
-use Rattle.plain.proofs.Members.{member-append, no-member}
+use Rattle.plain.proofs.Members.{member-append, member-here, member-there, no-member}
 use Rattle.plain.specs.Lists.{member, total}
-use Rattle.cells.proofs.Slices.{plus-sum}
-use Rattle.sizing.specs.Counters.{counted, lessened, passing, shared}
+use Rattle.plain.specs.Members.{In}
+use Rattle.sizing.specs.Counters.{begun, counted, lessened, passing, shared}
 
 -- ---- one row
 
@@ -19,9 +19,9 @@ module _ (flag weight degree : ℕ) where
   unfolding lessened
   lessened-met r = rw (le-leb flag (flag + r) (omega arith))
 
-  pub lessened-first : (mark : ℕ) → mark < flag → 0 < mark → degree + flag < 2 ^ 63 → lessened flag weight degree mark ≡ degree + flag - weight
-  unfolding lessened
-  lessened-first mark h k b = rw (lt-leb flag mark h, lt-ltb 0 mark k, plus-sum degree flag b)
+  pub lessened-first : (mark : ℕ) → mark < flag → 0 < mark → degree + flag < 2 ^ 63 → lessened flag weight degree mark ≡ degree + (flag - weight)
+  unfolding lessened begun
+  lessened-first mark h k b = rw (lt-leb flag mark h, lt-ltb 0 mark k, lt-ltb (degree + (flag - weight)) (2 ^ 63) (omega arith))
 
   pub lessened-gone : 0 < flag → lessened flag weight degree 0 ≡ 0
   unfolding lessened
@@ -66,17 +66,17 @@ module _ (flag : ℕ) (E : ℕ → List ℕ) (wt : ℕ → ℕ) (degree e : ℕ)
       subst-no q h = omega (arith, h)
 
   -- it is none yet, and some row has it
-  pub counted-first : (mark : ℕ) → mark < flag → 0 < mark → degree + flag < 2 ^ 63 → (new : List ℕ) → shared E wt e new ≤ degree → member e (flatMap E new) ≡ true
-      → counted flag E wt degree e new mark ≡ flag + (degree - shared E wt e new)
+  pub counted-first : (mark : ℕ) → mark < flag → 0 < mark → degree + flag < 2 ^ 63 → (new : List ℕ) → ((i : ℕ) → In i new → wt i ≤ flag) → shared E wt e new ≤ degree
+      → member e (flatMap E new) ≡ true → counted flag E wt degree e new mark ≡ flag + (degree - shared E wt e new)
   unfolding counted total flatMap
-  counted-first mark h k b [] s m = no-member e m
-  counted-first mark h k b (i ∷ new) s m =
+  counted-first mark h k b [] f s m = no-member e m
+  counted-first mark h k b (i ∷ new) f s m =
       either (foldl (passing flag E wt degree e) (passing flag E wt degree e mark i) new ≡ flag + (degree - (cond (member e (E i)) (wt i) 0 + shared E wt e new))) (member e (E i))
       (λ q.
       let s′ : wt i + shared E wt e new ≤ degree = omega (arith, s, ap (λ (x : Bool). cond x (wt i) 0) q) in
-      let z : degree + flag - wt i ≡ flag + (degree - wt i) = omega arith in
+      let z : degree + (flag - wt i) ≡ flag + (degree - wt i) = omega (arith, s′, f i (member-here i new)) in
       rw (q, lessened-first flag (wt i) degree mark h k b, z) (counted-met (degree - wt i) new (omega arith) ∙ omega arith))
       (λ q. rw q
-      (counted-first mark h k b new (omega (arith, s, ap (λ (x : Bool). cond x (wt i) 0) q))
+      (counted-first mark h k b new (λ j mj. f j (member-there j i new mj)) (omega (arith, s, ap (λ (x : Bool). cond x (wt i) 0) q))
       (or-cases (member e (flatMap E new) ≡ true) (member e (E i)) (member e (flatMap E new)) (sym (member-append e (E i) (flatMap E new)) ∙ m) (λ y. clash (member e (E i)) y q) (λ y. y))
       ∙ omega arith))

@@ -8,8 +8,8 @@ use lib.ListN.{replicate}
 use Rattle.plain.specs.Turns.{entries, times}
 use Rattle.cells.specs.Layout.{W}
 use Rattle.cells.specs.Rows.{clipped}
-use Rattle.cells.specs.View.{at, place, plus, rd, up, within, wr}
-use Rattle.sizing.specs.Model.{sizedAll, sizedAt, sizedElement, sizedFirst, sizedOf, sizedPart, sizedRow}
+use Rattle.cells.specs.View.{at, place, rd, up, within, wr}
+use Rattle.sizing.specs.Model.{sizedAll, sizedAt, sizedElement, sizedFirst, sizedList, sizedOf, sizedPart, sizedRow}
 
 -- of each row its place, its length, what is wanted of it, how many elements its list begins with, its degree and its mark; far behind them the weights
 scratch : List ℤ
@@ -24,5 +24,5 @@ space : List ℤ
 space = map pos (0 ∷ 1 ∷ 2 ∷ 4 ∷ 3 ∷ 2 ∷ 0 ∷ [])
 
 marks : entries (rd 5 W (sizedAll 5 space 10 0 2 scratch)) 0 5 ≡ 1 ∷ 1 ∷ 12 ∷ 11 ∷ 0 ∷ []
-unfolding sizedAll sizedRow sizedOf sizedPart sizedAt sizedElement sizedFirst times entries clipped plus at wr rd up place within scratch space
+unfolding sizedAll sizedRow sizedOf sizedList sizedPart sizedAt sizedElement sizedFirst times entries clipped at wr rd up place within scratch space
 marks = refl

@@ -63,7 +63,8 @@ has-some x [] m = no-member x m
 has-some x (y ∷ xs) m = omega arith
 
 module _ {n : ℕ} (st : State) (v : Inv n st) (p : ℕ) (pv : Var (st .graph) p) (l s : List ℤ) (cnt base lim flag : ℕ)
-    (h : Within n l s (passed (st .graph) p) p (collected (st .graph) p) cnt base lim) (f : Flagged n s (passed (st .graph) p) flag) (b : n + flag < 2 ^ 63) where
+    (h : Within n l s (passed (st .graph) p) p (collected (st .graph) p) cnt base lim) (f : Flagged n s (passed (st .graph) p) flag) (b : n + flag < 2 ^ 63)
+    (light : (i : ℕ) → Var (st .graph) i → weight (st .graph) i ≤ flag) where
   abbrev g : Graph
   g = st .graph
 
@@ -175,6 +176,7 @@ module _ {n : ℕ} (st : State) (v : Inv n st) (p : ℕ) (pv : Var (st .graph) p
         rows = rows;
         inside = λ z. omega (arith, new-length, list-inside p (omega (arith, new-length, z)));
         lists = listed;
+        light = λ i m. rw (h .weights i (var-inside (v .graph) i (row i m)), weights i) (light i (row i m));
         below = below;
         small = λ e w m. let r = member-flatMap e (elementsOf g₁) new m in fits e (r .0) (r .1) (r .2);
         enough = λ e w m. let r = member-flatMap e (elementsOf g₁) new m in omega (arith, counts e (r .0) (r .1) (r .2));

@@ -15,7 +15,7 @@ use Rattle.sizing.proofs.Marks.{kept-all, mark-all}
 
 module _ (n flag from k : ℕ) (l s : List ℤ) (E : ℕ → List ℕ) (new : List ℕ) (h : Ready n flag from k l s E new) where
   marks : (e : ℕ) → rd n W (sizedAll n l flag from k s) e ≡ counted flag E (rd n NV s) (rd n DEGREE s e) e new (rd n W s e)
-  marks e = mark-all n l flag s E e from k new (h .inside) (h .rows) (h .room) (h .lists)
+  marks e = mark-all n l flag s E e from k new (h .inside) (h .rows) (h .room) (h .lists) (h .light)
 
   -- THE refinement of step 3
   pub measured-all : Measured n flag s (sizedAll n l flag from k s) E new
@@ -26,5 +26,5 @@ module _ (n flag from k : ℕ) (l s : List ℤ) (E : ℕ → List ℕ) (new : Li
             let b : 0 < flag = omega (arith, h .below e) in
             marks e ∙ ap (λ (y : ℕ). counted flag E (rd n NV s) (rd n DEGREE s e) e new y) z ∙ counted-gone flag E (rd n NV s) (rd n DEGREE s e) e b new;
         others = λ e m. marks e ∙ counted-none flag E (rd n NV s) (rd n DEGREE s e) e (rd n W s e) new m;
-        sizes = λ e p m. marks e ∙ counted-first flag E (rd n NV s) (rd n DEGREE s e) e (rd n W s e) (h .below e) p (h .small e p m) new (h .enough e p m) m;
+        sizes = λ e p m. marks e ∙ counted-first flag E (rd n NV s) (rd n DEGREE s e) e (rd n W s e) (h .below e) p (h .small e p m) new (h .light) (h .enough e p m) m;
       }

@@ -1,6 +1,6 @@
 -- The code's steps are the model's: one law for each way out of a function, its premises in the words of what was called.
 -- Assumes nothing.
-use Prim.Native.Nat.{_+_, _-_, _<_, _≤_, ℕ}
+use Prim.Native.Nat.{_+_, _-_, _<_, _≤_, _^_, ℕ}
 use mathlib.Core.List.{List}
 use mathlib.Core.Path.{_≡_, refl, ap, _∙_}
 use borrow.Author.Tests.{le-leb, le-ltb, lt-leb, lt-ltb}
@@ -12,19 +12,23 @@ use Rattle.plain.specs.Turns.{Turned}
 use Rattle.plain.proofs.Turns.{begin, turn}
 use Rattle.cells.specs.Rows.{clipped}
 use Rattle.cells.proofs.Rows.{clipped-finish}
-use Rattle.sizing.specs.Model.{sizedAt, sizedElement, sizedFirst, sizedOf, sizedPart, sizedRow, sizedAll, weighedRow, weighedRows}
+use Rattle.sizing.specs.Model.{sizedAt, sizedElement, sizedFirst, sizedList, sizedOf, sizedPart, sizedRow, sizedAll, weighedRow, weighedRows}
 use Rattle.sizing.proofs.Marks.{kept-turns}
 
 module _ (n weight flag e : ℕ) (s : List ℤ) where
-  pub first-step : (d all left : ℕ) (r : List ℤ) → d ≡ rd n DEGREE s e → all ≡ plus d flag → left ≡ all - weight → r ≡ up n W s e left
-      → r ≡ sizedFirst n weight flag e s
-  unfolding sizedFirst
-  first-step d all left r hd ha hl hr = rw (← hd, ← ha, ← hl) hr
+  module _ (d : ℕ) (hd : d ≡ rd n DEGREE s e) where
+    pub first-fits : (r : List ℤ) → r ≡ up n W s e (d + (flag - weight)) → d + (flag - weight) < 2 ^ 63 → r ≡ sizedFirst n weight flag e s
+    unfolding sizedFirst
+    first-fits r hr h = rw (← hd, lt-ltb (d + (flag - weight)) (2 ^ 63) h) hr
+
+    pub first-over : 2 ^ 63 ≤ d + (flag - weight) → s ≡ sizedFirst n weight flag e s
+    unfolding sizedFirst
+    first-over h = rw (← hd, le-ltb (d + (flag - weight)) (2 ^ 63) h)
 
   module _ (mark : ℕ) (hm : mark ≡ rd n W s e) where
-    pub element-met : (left : ℕ) (r : List ℤ) → left ≡ mark - weight → r ≡ up n W s e left → flag ≤ mark → r ≡ sizedElement n weight flag e s
+    pub element-met : (r : List ℤ) → r ≡ up n W s e (mark - weight) → flag ≤ mark → r ≡ sizedElement n weight flag e s
     unfolding sizedElement
-    element-met left r hl hr h = rw (← hm, le-leb flag mark h, ← hl) hr
+    element-met r hr h = rw (← hm, le-leb flag mark h) hr
 
     pub element-first : (r : List ℤ) → r ≡ sizedFirst n weight flag e s → mark < flag → 0 < mark → r ≡ sizedElement n weight flag e s
     unfolding sizedElement
@@ -38,8 +42,21 @@ pub at-step : (n : ℕ) (l : List ℤ) (weight flag q : ℕ) (s : List ℤ) (e :
 unfolding sizedAt
 at-step n l weight flag q s e r he hr = rw (← he) hr
 
+module _ (n : ℕ) (l : List ℤ) (weight flag p k : ℕ) (s : List ℤ) where
+  pub list-there : (r : List ℤ) → r ≡ sizedPart n l weight flag p k s → p + k ≤ length l → weight ≤ flag → r ≡ sizedList n l weight flag p k s
+  unfolding sizedList
+  list-there r hr h w = rw (le-leb (p + k) (length l) h, le-leb weight flag w) hr
+
+  pub list-heavy : p + k ≤ length l → flag < weight → s ≡ sizedList n l weight flag p k s
+  unfolding sizedList
+  list-heavy h w = rw (le-leb (p + k) (length l) h, lt-leb weight flag w)
+
+  pub list-past : length l < p + k → s ≡ sizedList n l weight flag p k s
+  unfolding sizedList
+  list-past h = rw (lt-leb (p + k) (length l) h)
+
 pub row-step : (n : ℕ) (l : List ℤ) (flag q : ℕ) (s : List ℤ) (i weight p k : ℕ) (r : List ℤ) → i ≡ at l q → weight ≡ rd n NV s i → p ≡ rd n PE s i → k ≡ rd n ELEN s i
-    → r ≡ sizedPart n l weight flag p k s → r ≡ sizedRow n l flag q s
+    → r ≡ sizedList n l weight flag p k s → r ≡ sizedRow n l flag q s
 unfolding sizedRow sizedOf
 row-step n l flag q s i weight p k r hi hw hp hk hr = rw (← hi, ← hw, ← hp, ← hk) hr
 

@@ -31,6 +31,8 @@ pub record Ready (n flag from k : ℕ) (l s : List ℤ) (E : ℕ → List ℕ) (
   pub rows : entries (at l) from k ≡ new
   pub inside : 0 < k → from + k ≤ length l
   pub lists : Listed n l s E new
+  -- no row weighs more than the flag
+  pub light : (i : ℕ) → In i new → rd n NV s i ≤ flag
   -- no mark is a counter yet
   pub below : (e : ℕ) → rd n W s e < flag
   -- a counter is a number of a cell, and the rows that have the element do not exhaust it

@@ -2,33 +2,33 @@
 // is a counter: the flag, and what is left of the element's weight. A mark below it is no counter yet; 0 is an element that is no more.
 // Nothing here asks for a memory that makes sense, but for rows in the list space: a contract is the function's own model, and the laws of `proofs/` say what it finds.
 ghost use mathlib.Core.Path.{_≡_};
-ghost use Prim.Native.Nat.{_<_, _^_};
+ghost use Prim.Native.Nat.{_+_, _<_, _≤_, _^_};
 ghost use lib.ListN.{length};
 ghost use Rattle.cells.specs.Layout.{NV};
 ghost use Rattle.cells.specs.View.{Room, at, rd};
 ghost use Rattle.cells.specs.Rows.{Rows};
-ghost use Rattle.sizing.specs.Model.{sizedFirst, sizedElement, sizedAt, sizedPart, sizedRow, sizedAll, weighedRows};
+ghost use Rattle.sizing.specs.Model.{sizedFirst, sizedElement, sizedAt, sizedPart, sizedList, sizedRow, sizedAll, weighedRows};
 
-// The counter of `e` begins at its weight, and loses that of the first row.
+// The counter of `e` begins at its weight, and loses that of the first row. Where that is no number of a cell, nothing is done.
 pub fn size_first(s: &mut [i64], n: usize, e: usize, weight: usize, flag: usize)
-    requires { ⌜ Room n (now s) × (e < n) × (flag < 2 ^ 63) ⌝ }
+    requires { ⌜ Room n (now s) × (e < n) × (weight ≤ flag) × (flag < 2 ^ 63) ⌝ }
     ensures { λ _. ⌜ (now (s .exit) ≡ sizedFirst n weight flag e (now (s .entry))) × Room n (now (s .exit)) ⌝ }
 {
     let d = cells::get(s, n, cells::DEGREE, e);
-    let all = cells::plus(d, flag);
-    let left = cells::less(all, weight);
-    cells::set(s, n, cells::W, e, left);
+    let left = d + (flag - weight);
+    if left < 0x8000_0000_0000_0000 {
+        cells::set(s, n, cells::W, e, left);
+    }
 }
 
 // A row of this weight has the element `e`.
 pub fn size_element(s: &mut [i64], n: usize, e: usize, weight: usize, flag: usize)
-    requires { ⌜ Room n (now s) × (e < n) × (flag < 2 ^ 63) ⌝ }
+    requires { ⌜ Room n (now s) × (e < n) × (weight ≤ flag) × (flag < 2 ^ 63) ⌝ }
     ensures { λ _. ⌜ (now (s .exit) ≡ sizedElement n weight flag e (now (s .entry))) × Room n (now (s .exit)) ⌝ }
 {
     let mark = cells::get(s, n, cells::W, e);
     if flag <= mark {
-        let left = cells::less(mark, weight);
-        cells::set(s, n, cells::W, e, left);
+        cells::set(s, n, cells::W, e, mark - weight);
     } else if 0 < mark {
         size_first(s, n, e, weight, flag);
     }
@@ -36,7 +36,7 @@ pub fn size_element(s: &mut [i64], n: usize, e: usize, weight: usize, flag: usiz
 
 // The same of the element in cell `q` of the lists.
 pub fn size_at(lists: &[i64], s: &mut [i64], n: usize, q: usize, weight: usize, flag: usize)
-    requires { ⌜ Room n (now s) × Rows n (now lists) × (q < length (now lists)) × (flag < 2 ^ 63) ⌝ }
+    requires { ⌜ Room n (now s) × Rows n (now lists) × (q < length (now lists)) × (weight ≤ flag) × (flag < 2 ^ 63) ⌝ }
     ensures { λ _. ⌜ (now (s .exit) ≡ sizedAt n (now (lists .entry)) weight flag q (now (s .entry))) × Room n (now (s .exit)) ⌝ }
 {
     let e = cells::row(lists, n, q);
@@ -53,12 +53,23 @@ pub fn size_elements(
     weight: usize,
     flag: usize,
 )
-    requires { ⌜ Room n (now s) × Rows n (now lists) × (flag < 2 ^ 63) ⌝ }
+    requires { ⌜ Room n (now s) × Rows n (now lists) × (p + k ≤ length (now lists)) × (weight ≤ flag) × (flag < 2 ^ 63) ⌝ }
     ensures { λ _. ⌜ (now (s .exit) ≡ sizedPart n (now (lists .entry)) weight flag p k (now (s .entry))) × Room n (now (s .exit)) ⌝ }
 {
-    let there = cells::clip(lists.len(), p, k);
-    for t in 0..there {
+    for t in 0..k {
         size_at(lists, s, n, p + t, weight, flag);
+    }
+}
+
+// The same, if all of them are there and the weight is not above the flag: asked once for all of them.
+fn size_list(lists: &[i64], s: &mut [i64], n: usize, p: usize, k: usize, weight: usize, flag: usize)
+    requires { ⌜ Room n (now s) × Rows n (now lists) × (p < 2 ^ 63) × (k < 2 ^ 63) × (flag < 2 ^ 63) ⌝ }
+    ensures { λ _. ⌜ (now (s .exit) ≡ sizedList n (now (lists .entry)) weight flag p k (now (s .entry))) × Room n (now (s .exit)) ⌝ }
+{
+    if p + k <= lists.len() {
+        if weight <= flag {
+            size_elements(lists, s, n, p, k, weight, flag);
+        }
     }
 }
 
@@ -71,7 +82,7 @@ pub fn size_row(lists: &[i64], s: &mut [i64], n: usize, q: usize, flag: usize) -
     let weight = cells::look(s, n, cells::NV, i);
     let p = cells::get(s, n, cells::PE, i);
     let k = cells::get(s, n, cells::ELEN, i);
-    size_elements(lists, s, n, p, k, weight, flag);
+    size_list(lists, s, n, p, k, weight, flag);
     weight
 }
 

@@ -12,8 +12,8 @@ use Rattle.plain.specs.Turns.{entries, upd}
 use Rattle.definition.specs.Outcome as Outcomes
 use Rattle.definition.specs.Pivot.{collected, delisted, found, passed, pivot}
 use Rattle.definition.specs.Room as room
-use Rattle.definition.specs.State.{Graph, State, elementsOf, queueOf}
-use Rattle.facts.proofs.Flags.{flag-small}
+use Rattle.definition.specs.State.{Graph, State, elementsOf, queueOf, weight}
+use Rattle.facts.proofs.Flags.{flag-small, weight-below}
 use Rattle.facts.proofs.Invariant.{var-inside}
 use Rattle.facts.proofs.Pivots.{Pivoted, pivoted}
 use Rattle.facts.proofs.Weighed.{Weighed}
@@ -91,6 +91,10 @@ module _ {N n nd size : ℕ} {l s : List ℤ} {t : Turn} {x : Outcomes.Statistic
       let z : st .gone ≤ n = omega (arith, b .inv .counted) in
       omega (arith, h .low, mul-le-mul-left (2 * n) z, flag-small n (omega (arith, b .many, b .few)))
 
+  -- no row weighs more than the flag
+  light : (i : ℕ) → Var (st .graph) i → weight (st .graph) i ≤ t .flag
+  light i w = omega (arith, weight-below st (b .inv) (b .weighed) (t .most) (h .most) i w, h .two, h .above)
+
   -- ---- step 2
 
   abbrev pub begun : Outside
@@ -158,7 +162,7 @@ module _ {N n nd size : ℕ} {l s : List ℤ} {t : Turn} {x : Outcomes.Statistic
       subst (λ (a : ℕ). sizing.Outside n (t .flag) (begun .mem) (sizedAll n (begun .lists) (t .flag) a (begun .made .count) (begun .mem)) (passed g p) new) place₁
       (subst (λ (k : ℕ). sizing.Outside n (t .flag) (begun .mem) (sizedAll n (begun .lists) (t .flag) (rd n PE (begun .mem) p) k (begun .mem)) (passed g p) new) (sym counted₁)
       (outside-all st (b .inv) p pivot-var (begun .lists) (begun .mem) (begun .made .made) (begun .made .base) (begun .made .free) (t .flag) drawn₁ flagged₁
-      (omega (arith, flag-low, b .many, b .few))))
+      (omega (arith, flag-low, b .many, b .few)) light))
 
   pub drawn₂ : Within n (begun .lists) sized (passed (st .graph) p) p (collected (st .graph) p) (begun .made .made) (begun .made .base) (begun .made .free)
   drawn₂ = drawn-kept (outside₂ .kept) drawn₁

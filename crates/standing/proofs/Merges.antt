@@ -125,6 +125,10 @@ module _ {N n nd size : ℕ} {l s : List ℤ} {t : Turn} {x : Outcomes.Statistic
     pub risen₄ : merges .tally .flag ≤ t .flag + 2 * n
     risen₄ = omega (arith, merged₄ .flags, flag-is, modest, newest-fewer g₂ new (given .once), short)
 
+    -- it is not below the largest remaining weight, which it rose by
+    pub above₄ : max (t .most) left ≤ merges .tally .flag
+    above₄ = omega (arith, merged₄ .rises, flag-is)
+
     -- and is still above the pivot's own mark
     pub two₄ : 1 < merges .tally .flag
     two₄ =

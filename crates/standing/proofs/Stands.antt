@@ -29,7 +29,7 @@ use Rattle.numbers.specs.Gains.{Within, afterElements, gained}
 use Rattle.elimination.specs.Model.{elementCounted}
 use Rattle.standing.specs.Standing.{Standing}
 use Rattle.standing.proofs.Begun.{Before, begun, chosen, pivot-low, pivot-var}
-use Rattle.standing.proofs.Merges.{merged₄, merges, risen₄, two₄}
+use Rattle.standing.proofs.Merges.{above₄, merged₄, merges, risen₄, two₄}
 use Rattle.standing.proofs.Places.{done₅, gone-next, kept₅, left-few, left-is, next, rest-is, turn₅}
 use Rattle.standing.proofs.After.{chained₅, flagged₅, grows, least₅, logged₅, long₅, now, pivots-are, unwritten₅}
 use Rattle.standing.proofs.Elements.{sizes₅}
@@ -85,6 +85,7 @@ module _ {N n nd size : ℕ} {l s : List ℤ} {t : Turn} {x : Outcomes.Statistic
         low = omega (arith, risen₄ b aggressive (left-few b aggressive), b .stands .low, mul-le-mul-left (2 * n) (grows b aggressive), mul-suc (2 * n) (st .gone));
         most = λ e v. omega (arith, degrees-below (plainKey n) aggressive st (b .inv) p d (chosen b) (t .most) (b .stands .most) e v, left-is b aggressive, rest-is b aggressive);
         modest = omega (arith, left-few b aggressive, b .stands .modest);
+        above = above₄ b aggressive (left-few b aggressive);
         heads = λ k low. unwritten₅ b aggressive HHEAD k refl refl refl refl refl refl refl refl refl ∙ merged₄ b aggressive (left-few b aggressive) .heads k low;
         merges = merged₄ b aggressive (left-few b aggressive) .ms;
         logged = logged₅ b aggressive;

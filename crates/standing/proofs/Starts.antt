@@ -81,6 +81,7 @@ module _ (N limit : ℕ) (nbrs : List (List ℕ)) (nb : Neighbourly nbrs) (few :
         low = omega arith;
         most = λ e h. omega (arith, low e (h .0));
         modest = omega arith;
+        above = omega arith;
         heads = opened-keys limit nbrs nb l s room small (packed .count) (packed .place) there fits-l;
         merges = [];
         logged = opened-log limit nbrs nb l s room small (packed .count) (packed .place) there fits-l;

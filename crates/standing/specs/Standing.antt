@@ -33,9 +33,10 @@ pub record Standing (N n nd size : ℕ) (l s : List ℤ) (t : Turn) (x : Outcome
   pub flagged : Flagged n s (st .graph) (t .flag)
   pub two : 1 < t .flag
   pub low : t .flag ≤ 2 + 2 * n * st .gone
-  -- no live element weighs more than `most`
+  -- no live element weighs more than `most`, which is not above the flag
   pub most : (e : ℕ) → Live (st .graph) e → degree (st .graph) e ≤ t .most
   pub modest : t .most ≤ n
+  pub above : t .most ≤ t .flag
   -- no bucket has a row
   pub heads : (k : ℕ) → k < n → rd n HHEAD s k ≡ n
   -- the log of merges, and the elements made at the free end

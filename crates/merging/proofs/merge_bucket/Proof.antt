@@ -3,7 +3,7 @@ use mathlib.Core.Path.{_≡_}
 use lib.ListN.{length}
 use Rattle.cells.specs.View.{Room}
 use Rattle.merging.specs.Model.{Bounded, merging}
-use Rattle.merging.proofs.Walks.{Running, run-start, run-more, run-end, run-out}
+use Rattle.merging.proofs.Walks.{Running, run-start, run-more, run-end, run-out, run-rest}
 use borrow.Author.Needs.{needs}
 use Rattle.merging.proofs.merge_bucket.Statement.{statement}
 use Rattle.merging.proofs.merge_bucket.Tie as tie
@@ -24,11 +24,14 @@ loop-holds c = search (needs, run-start)
 sub-todo : tie.Need-sub-todo Inv-loop μ-loop
 sub-todo c = search needs
 
+look-requires : tie.Need-look-requires Inv-loop μ-loop
+look-requires c κs = search needs
+
 merge-at-requires : tie.Need-merge-at-requires Inv-loop μ-loop
 merge-at-requires c κs = search needs
 
-look-requires : tie.Need-look-requires Inv-loop μ-loop
-look-requires c κs = search needs
+look-requires-2 : tie.Need-look-requires-2 Inv-loop μ-loop
+look-requires-2 c κs = search needs
 
 loop-less : tie.Need-loop-less Inv-loop μ-loop
 loop-less c = search needs
@@ -48,5 +51,28 @@ same-length-2 c = search needs
 returns-2 : tie.Need-returns-2 Inv-loop μ-loop
 returns-2 c = search (needs, run-out)
 
+same-length-3 : tie.Need-same-length-3 Inv-loop μ-loop
+same-length-3 c = search needs
+
+returns-3 : tie.Need-returns-3 Inv-loop μ-loop
+returns-3 c = search (needs, run-rest)
+
 pub merge-bucket-spec : {M : Type 1} → statement M
-merge-bucket-spec = tie.close (tie.spec Inv-loop μ-loop loop-holds sub-todo merge-at-requires look-requires loop-less loop-again same-length returns same-length-2 returns-2)
+merge-bucket-spec =
+    tie.close
+    (tie.spec
+    Inv-loop
+    μ-loop
+    loop-holds
+    sub-todo
+    look-requires
+    merge-at-requires
+    look-requires-2
+    loop-less
+    loop-again
+    same-length
+    returns
+    same-length-2
+    returns-2
+    same-length-3
+    returns-3)

@@ -5,15 +5,14 @@ use Rattle.sizing.proofs.size_element.Tie as tie
 use Rattle.sizing.proofs.size_element.Reads as reads
 use Rattle.sizing.proofs.size_element.Lts as lts
 use Rattle.cells.proofs.get.Reads as get-reads
-use Rattle.cells.proofs.less.Reads as less-reads
 use Rattle.cells.proofs.set.Reads as set-reads
 use Rattle.sizing.proofs.size_first.Reads as size-first-reads
 
 get-requires : tie.Need-get-requires
 get-requires c κs = search needs
 
-less-requires : tie.Need-less-requires
-less-requires c κs = search needs
+sub-set : tie.Need-sub-set
+sub-set c = search needs
 
 set-requires : tie.Need-set-requires
 set-requires c κs = search needs
@@ -40,4 +39,16 @@ returns-3 : tie.Need-returns-3
 returns-3 c = search (needs, element-gone)
 
 pub size-element-spec : {M : Type 1} → statement M
-size-element-spec = tie.close (tie.spec get-requires less-requires set-requires size-first-requires same-length returns same-length-2 returns-2 same-length-3 returns-3)
+size-element-spec =
+    tie.close
+    (tie.spec
+    get-requires
+    sub-set
+    set-requires
+    size-first-requires
+    same-length
+    returns
+    same-length-2
+    returns-2
+    same-length-3
+    returns-3)

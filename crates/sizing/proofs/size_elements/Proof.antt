@@ -1,8 +1,7 @@
 use Rattle.sizing.specs.Model.{sizedAt, sizedPart}
 use Rattle.cells.specs.View.{Room}
 use Prim.Native.Nat.{_+_, _≤_, _-_}
-use Rattle.plain.proofs.Turns.{begin, turn}
-use Rattle.cells.proofs.Rows.{clipped-finish}
+use Rattle.plain.proofs.Turns.{begin, turn, finish}
 use Rattle.plain.specs.Turns.{Turned}
 use lib.ListN.{length}
 use mathlib.Core.Path.{_≡_}
@@ -11,17 +10,13 @@ use Rattle.sizing.proofs.size_elements.Statement.{statement}
 use Rattle.sizing.proofs.size_elements.Tie as tie
 use Rattle.sizing.proofs.size_elements.Reads as reads
 use Rattle.sizing.proofs.size_elements.Lts as lts
-use Rattle.cells.proofs.clip.Reads as clip-reads
 use Rattle.sizing.proofs.size_at.Reads as size-at-reads
 
 abbrev Inv-loop : tie.InvT-loop
-Inv-loop lists s₀ n p k weight flag there t₀ s t = Turned (λ j. sizedAt n lists weight flag (p + j)) s₀ t s × (length s ≡ length s₀) × Room n s × (t ≤ there)
+Inv-loop lists s₀ n p k weight flag t₀ s t = Turned (λ j. sizedAt n lists weight flag (p + j)) s₀ t s × (length s ≡ length s₀) × Room n s × (t ≤ k)
 
 abbrev μ-loop : tie.MeasureT-loop
-μ-loop lists s₀ n p k weight flag there t₀ s t = there - t
-
-clip-requires : tie.Need-clip-requires Inv-loop μ-loop
-clip-requires c κs = search needs
+μ-loop lists s₀ n p k weight flag t₀ s t = k - t
 
 loop-holds : tie.Need-loop-holds Inv-loop μ-loop
 loop-holds c = search (needs, begin)
@@ -46,7 +41,7 @@ same-length c = search needs
 
 returns : tie.Need-returns Inv-loop μ-loop
 unfolding sizedPart
-returns c = search (needs, clipped-finish)
+returns c = search (needs, finish)
 
 pub size-elements-spec : {M : Type 1} → statement M
-size-elements-spec = tie.close (tie.spec Inv-loop μ-loop clip-requires loop-holds add-size-at size-at-requires add-t loop-less loop-again same-length returns)
+size-elements-spec = tie.close (tie.spec Inv-loop μ-loop loop-holds add-size-at size-at-requires add-t loop-less loop-again same-length returns)

@@ -7,7 +7,7 @@ use Rattle.sizing.proofs.size_row.Lts as lts
 use Rattle.cells.proofs.row.Reads as row-reads
 use Rattle.cells.proofs.look.Reads as look-reads
 use Rattle.cells.proofs.get.Reads as get-reads
-use Rattle.sizing.proofs.size_elements.Reads as size-elements-reads
+use Rattle.sizing.proofs.size_list.Reads as size-list-reads
 
 row-requires : tie.Need-row-requires
 row-requires c κs = search needs
@@ -21,8 +21,8 @@ get-requires c κs = search needs
 get-requires-2 : tie.Need-get-requires-2
 get-requires-2 c κs = search needs
 
-size-elements-requires : tie.Need-size-elements-requires
-size-elements-requires c κs = search needs
+size-list-requires : tie.Need-size-list-requires
+size-list-requires c κs = search needs
 
 same-length : tie.Need-same-length
 same-length c = search needs
@@ -31,4 +31,4 @@ returns : tie.Need-returns
 returns c = search (needs, row-step, row-weight)
 
 pub size-row-spec : {M : Type 1} → statement M
-size-row-spec = tie.close (tie.spec row-requires look-requires get-requires get-requires-2 size-elements-requires same-length returns)
+size-row-spec = tie.close (tie.spec row-requires look-requires get-requires get-requires-2 size-list-requires same-length returns)
