@@ -61,18 +61,18 @@ module _ (n : ℕ) where
 -- ---- one row
 
 -- the code's test is the definition's
-same-test : (limit d : ℕ) (x y : List ℤ) → (d ≡ 0) ⊎ (d ≢ 0) → (limit < d) ⊎ (d ≤ limit)
-    → cond (ltb 0 d) (cond (leb d limit) x y) y ≡ cond (isVariable (cond (eqb d 0) element (cond (ltb limit d) dense variable))) x y
-same-test limit d x y (inl e) b = rw (eq-eqb d 0 e, le-ltb 0 d (omega arith))
-same-test limit d x y (inr e) (inl b) = rw (ne-eqb d 0 e, lt-ltb 0 d (omega arith), lt-leb d limit b, lt-ltb limit d b)
-same-test limit d x y (inr e) (inr b) = rw (ne-eqb d 0 e, lt-ltb 0 d (omega arith), le-leb d limit b, le-ltb limit d b)
+same-test : (n limit d : ℕ) (x y : List ℤ) → d < n → (d ≡ 0) ⊎ (d ≢ 0) → (limit < d) ⊎ (d ≤ limit)
+    → cond (ltb 0 d) (cond (leb d limit) (cond (ltb d n) x y) y) y ≡ cond (isVariable (cond (eqb d 0) element (cond (ltb limit d) dense variable))) x y
+same-test n limit d x y a (inl e) b = rw (eq-eqb d 0 e, le-ltb 0 d (omega arith))
+same-test n limit d x y a (inr e) (inl b) = rw (ne-eqb d 0 e, lt-ltb 0 d (omega arith), lt-leb d limit b, lt-ltb limit d b)
+same-test n limit d x y a (inr e) (inr b) = rw (ne-eqb d 0 e, lt-ltb 0 d (omega arith), le-leb d limit b, le-ltb limit d b, lt-ltb d n a)
 
 module _ (n limit : ℕ) where
   -- what putting a row to the front keeps
   enlisted-keeps : (P : List ℤ → Type 0) → ((m : List ℤ) (i : ℕ) → i < n → P m → P (pushed n m (rd n LEN m i) i)) → (m : List ℤ) (i : ℕ) → i < n → P m → P (enlistedOne n limit i m)
   unfolding enlistedOne
   enlisted-keeps P h m i l p =
-      cond-has P (ltb 0 (rd n LEN m i)) (λ _. cond-has P (leb (rd n LEN m i) limit) (λ _. h m i l p) (λ _. p)) (λ _. p)
+      cond-has P (ltb 0 (rd n LEN m i)) (λ _. cond-has P (leb (rd n LEN m i) limit) (λ _. cond-has P (ltb (rd n LEN m i) n) (λ _. h m i l p) (λ _. p)) (λ _. p)) (λ _. p)
 
   all-keeps : (P : List ℤ → Type 0) → ((m : List ℤ) (d : ℕ) → P m → P (up n HEAD m d n))
       → ((m : List ℤ) (i : ℕ) → i < n → P m → P (pushed n m (rd n LEN m i) i)) → (s : List ℤ) → P s → P (enlistedAll n limit s)
@@ -127,10 +127,11 @@ module _ (n limit : ℕ) (nbrs : List (List ℕ)) (low : (v : ℕ) → v < n →
     later : (v e : ℕ) → k ≤ v → e < n → member v (queueOf qs e) ≡ false
 
   -- the row's turn
-  turn-is : (k : ℕ) (m : List ℤ) → rd n LEN m k ≡ startDegree nbrs k
+  turn-is : (k : ℕ) (m : List ℤ) → k < n → rd n LEN m k ≡ startDegree nbrs k
       → enlistedOne n limit k m ≡ cond (isVariable (startKind limit nbrs k)) (pushed n m (startDegree nbrs k) k) m
   unfolding enlistedOne startKind
-  turn-is k m e = rw e (same-test limit (startDegree nbrs k) (pushed n m (startDegree nbrs k) k) m (same? (startDegree nbrs k) 0) (split limit (startDegree nbrs k)))
+  turn-is k m l e =
+      rw e (same-test n limit (startDegree nbrs k) (pushed n m (startDegree nbrs k) k) m (low k l) (same? (startDegree nbrs k) 0) (split limit (startDegree nbrs k)))
 
   module _ (k : ℕ) (m : List ℤ) (qs : List (List ℕ)) (l : k < n) (h : Opened k m qs) where
     abbrev d : ℕ
@@ -150,7 +151,7 @@ module _ (n limit : ℕ) (nbrs : List (List ℕ)) (low : (v : ℕ) → v < n →
 
     opened-turn : Opened (suc k) (enlistedOne n limit k m) (enlist limit nbrs qs k)
     unfolding enlist
-    opened-turn = rw (turn-is k m (h .lengths k l)) (open-by (isVariable (startKind limit nbrs k)))
+    opened-turn = rw (turn-is k m l (h .lengths k l)) (open-by (isVariable (startKind limit nbrs k)))
 
   module _ (s : List ℤ) (room : Room n s) (lengths : (v : ℕ) → v < n → rd n LEN s v ≡ startDegree nbrs v) where
     opened-begin : Opened 0 (emptied n s) (replicate n [])

@@ -43,9 +43,13 @@ push-step n s d i h t u r hh ht hu hr = rw (← hh, ← ht, ← hu) hr
 -- ---- the start
 
 module _ (n limit i : ℕ) (s : List ℤ) (d : ℕ) (hd : d ≡ rd n LEN s i) where
-  pub enlist-yes : (r : List ℤ) → r ≡ pushed n s d i → 0 < d → d ≤ limit → r ≡ enlistedOne n limit i s
+  pub enlist-yes : (r : List ℤ) → r ≡ pushed n s d i → 0 < d → d ≤ limit → d < n → r ≡ enlistedOne n limit i s
   unfolding enlistedOne
-  enlist-yes r e a b = rw (← hd, lt-ltb 0 d a, le-leb d limit b) e
+  enlist-yes r e a b c = rw (← hd, lt-ltb 0 d a, le-leb d limit b, lt-ltb d n c) e
+
+  pub enlist-past : n ≤ d → d ≤ limit → 0 < d → s ≡ enlistedOne n limit i s
+  unfolding enlistedOne
+  enlist-past c b a = rw (← hd, lt-ltb 0 d a, le-leb d limit b, le-ltb d n c)
 
   pub enlist-long : limit < d → 0 < d → s ≡ enlistedOne n limit i s
   unfolding enlistedOne

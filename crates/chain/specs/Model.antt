@@ -41,9 +41,10 @@ removedAll l n p k s = times (clipped (length l) p k) (λ t m. removed n m (at l
 unfoldable pub emptied : ℕ → List ℤ → List ℤ
 emptied n s = times n (λ d m. up n HEAD m d n) s
 
--- row i goes to the front of the list of its length, if that is not 0 and not above the limit
+-- row i goes to the front of the list of its length, if that is not 0, not above the limit and below n
 unfoldable pub enlistedOne : ℕ → ℕ → ℕ → List ℤ → List ℤ
-enlistedOne n limit i s = cond (ltb 0 (rd n LEN s i)) (cond (leb (rd n LEN s i) limit) (pushed n s (rd n LEN s i) i) s) s
+enlistedOne n limit i s =
+    cond (ltb 0 (rd n LEN s i)) (cond (leb (rd n LEN s i) limit) (cond (ltb (rd n LEN s i) n) (pushed n s (rd n LEN s i) i) s) s) s
 
 -- every row, ascending
 unfoldable pub enlistedAll : ℕ → ℕ → List ℤ → List ℤ

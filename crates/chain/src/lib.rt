@@ -50,13 +50,13 @@ fn link_before(s: &mut [i64], n: usize, front: usize, i: usize)
 
 // Puts row `i` to the front of the list of degree `d`, which becomes its degree.
 pub fn put_front(s: &mut [i64], n: usize, d: usize, i: usize)
-    requires { ⌜ Room n (now s) × (d < 2 ^ 63) × (i < n) ⌝ }
+    requires { ⌜ Room n (now s) × (d < n) × (i < n) ⌝ }
     ensures { λ _. ⌜ (now (s .exit) ≡ pushed n (now (s .entry)) d i) × Room n (now (s .exit)) ⌝ }
 {
-    let front = cells::tab(s, n, cells::HEAD, d);
+    let front = cells::look(s, n, cells::HEAD, d);
     link_before(s, n, front, i);
     cells::set(s, n, cells::DEGREE, i, d);
-    cells::put(s, n, cells::HEAD, d, i);
+    cells::note(s, n, cells::HEAD, d, i);
 }
 
 // The front of the first list at or after the degree `least` that has one, and its degree.
@@ -110,7 +110,7 @@ fn empty_lists(s: &mut [i64], n: usize)
     }
 }
 
-// Puts row `i` to the front of the list of its length: a row of length 0 and a row longer than the limit go into no list.
+// Puts row `i` to the front of the list of its length: a row of length 0 and a row longer than the limit go into no list, and there is none for a row as long as `n`.
 fn enlist(s: &mut [i64], n: usize, limit: usize, i: usize)
     requires { ⌜ Room n (now s) × (i < n) ⌝ }
     ensures { λ _. ⌜ (now (s .exit) ≡ enlistedOne n limit i (now (s .entry))) × Room n (now (s .exit)) ⌝ }
@@ -118,7 +118,9 @@ fn enlist(s: &mut [i64], n: usize, limit: usize, i: usize)
     let d = cells::get(s, n, cells::LEN, i);
     if 0 < d {
         if d <= limit {
-            put_front(s, n, d, i);
+            if d < n {
+                put_front(s, n, d, i);
+            }
         }
     }
 }

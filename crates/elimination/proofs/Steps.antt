@@ -11,7 +11,7 @@ use lib.IntN.{ℤ}
 use Rattle.numbers.specs.Gains.{addedElement, begun, counted}
 use Rattle.numbers.specs.Meaning.{statisticsMeant}
 use Rattle.numbers.specs.declared.Statistics.{Statistics}
-use Rattle.cells.specs.Layout.{DEGREE, NV, WANT}
+use Rattle.cells.specs.Layout.{DEGREE, NV}
 use Rattle.cells.specs.View.{at, plus, rd}
 use Rattle.chain.specs.First.{First}
 use Rattle.packed.specs.declared.Made.{Made}
@@ -30,7 +30,7 @@ use Rattle.elimination.specs.declared.Met.{Met}
 use Rattle.elimination.specs.declared.Reduced.{Reduced}
 use Rattle.elimination.specs.declared.Turn.{Turn}
 use Rattle.elimination.specs.declared.Work.{Work}
-use Rattle.elimination.specs.Model.{closed, compared, elementCounted, ended, firstTurn, freeEnd, meeting, met, pivotStep, reduced, placed, placement, nextTurn, reduction, settled, stage}
+use Rattle.elimination.specs.Model.{closed, compared, elementCounted, ended, firstTurn, freeEnd, leftOf, meeting, met, pivotStep, reduced, placed, placement, nextTurn, reduction, settled, stage}
 use Rattle.elimination.specs.Runs.{Ran, Turned, Whole}
 
 -- ---- steps 3 to 5
@@ -59,13 +59,17 @@ unfolding freeEnd
 free-same m made count h = rw (le-ltb made (m .made) h)
 
 pub placed-is : (n me d : ℕ) (m : Made) (size left : ℕ) (l s l₁ s₁ s₂ : List ℤ) (r : Restored)
-    → spot s₁ (r .least) ≡ placedAll n size left l (m .start) (m .count) (spot s d) → cut l₁ (r .count) ≡ keptPart n WANT s₁ (m .start) (m .count) l
+    → spot s₁ (r .least) ≡ placedAll n size left l (m .start) (m .count) (spot s d) → cut l₁ (r .count) ≡ keptPart n NV s (m .start) (m .count) l
     → s₂ ≡ finished n s₁ me size (r .count) → placement l₁ s₂ r ≡ placed n me d m size left l s
 unfolding placed
 placed-is n me d m size left l s l₁ s₁ s₂ r ho hc hs = rw (← ho, ← hc, ← hs)
 
+pub left-is : (n gone past r : ℕ) → past ≡ max gone 1 → r ≡ n - past → r ≡ leftOf n gone
+unfolding leftOf
+left-is n gone past r hp hr = rw (← hp) hr
+
 pub settled-is : (n me d : ℕ) (m : Made) (x : Met) (t : Turn) (gone : ℕ) (l s : List ℤ) (left : ℕ) (l₁ s₁ : List ℤ) (r : Restored) (free collections : ℕ) (y : Turn)
-    → left ≡ n - gone → placement l₁ s₁ r ≡ placed n me d m (x .size) left l s → free ≡ freeEnd m (t .made) (r .count) → collections ≡ plus (t .collections) (m .collected)
+    → left ≡ leftOf n gone → placement l₁ s₁ r ≡ placed n me d m (x .size) left l s → free ≡ freeEnd m (t .made) (r .count) → collections ≡ plus (t .collections) (m .collected)
     → y ≡ nextTurn gone (r .least) free collections m x → stage l₁ s₁ y ≡ settled n me d m x t gone l s
 unfolding settled
 settled-is n me d m x t gone l s left l₁ s₁ r free collections y hl hp hf hk hy = rw (← hl, ← hp, ← hf, ← hk, ← hy)

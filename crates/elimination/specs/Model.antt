@@ -7,7 +7,7 @@ use lib.Dec.{ltb}
 use lib.IntN.{ℤ}
 use Rattle.definition.specs.Outcome as Outcomes
 use Rattle.numbers.specs.Gains.{addedElement, counted}
-use Rattle.cells.specs.Layout.{DEGREE, NV, WANT}
+use Rattle.cells.specs.Layout.{DEGREE, NV}
 use Rattle.cells.specs.View.{plus, rd}
 use Rattle.packed.specs.declared.Made.{Made}
 use Rattle.packed.specs.Gather.{keptPart}
@@ -99,8 +99,12 @@ placement l s r = record { lists = l; mem = s; numbers = r }
 unfoldable pub placed : ℕ → ℕ → ℕ → Made → ℕ → ℕ → List ℤ → List ℤ → Placement
 placed n me d m size left l s =
     let o = placedAll n size left l (m .start) (m .count) (spot s d) in
-    let c = keptPart n WANT (o .mem) (m .start) (m .count) l in
+    let c = keptPart n NV s (m .start) (m .count) l in
     placement (c .lists) (finished n (o .mem) me size (c .count)) (record { count = c .count; least = o .least })
+
+-- one is gone in any case
+unfoldable pub leftOf : ℕ → ℕ → ℕ
+leftOf n gone = n - max gone 1
 
 unfoldable pub nextTurn : ℕ → ℕ → ℕ → ℕ → Made → Met → Turn
 nextTurn gone least free collections m x = record {
@@ -117,7 +121,7 @@ nextTurn gone least free collections m x = record {
 
 unfoldable pub settled : ℕ → ℕ → ℕ → Made → Met → Turn → ℕ → List ℤ → List ℤ → Stage
 settled n me d m x t gone l s =
-    let r = placed n me d m (x .size) (n - gone) l s in
+    let r = placed n me d m (x .size) (leftOf n gone) l s in
     stage (r .lists) (r .mem)
     (nextTurn gone (r .numbers .least) (freeEnd m (t .made) (r .numbers .count)) (plus (t .collections) (m .collected)) m x)
 

@@ -6,7 +6,7 @@ ghost use Rattle.cells.specs.View.{Room, plus};
 ghost use Rattle.cells.specs.Rows.{Rows};
 ghost use Rattle.packed.specs.Gather.{Brief};
 ghost use Rattle.numbers.specs.Meaning.{statisticsMeant};
-ghost use Rattle.elimination.specs.Model.{Small, Few, reduction, reduced, meeting, met, freeEnd, placement, placed, nextTurn, stage, settled, ended, pivotStep, elementCounted, firstTurn, closed};
+ghost use Rattle.elimination.specs.Model.{Small, Few, reduction, reduced, meeting, met, freeEnd, placement, placed, leftOf, nextTurn, stage, settled, ended, pivotStep, elementCounted, firstTurn, closed};
 ghost use Rattle.elimination.specs.Runs.{Turned, Ran, Whole};
 
 // What a pivot takes over from the one before: how many variables are gone, the least degree, the flag, the largest remaining weight of an element, the merges
@@ -138,12 +138,21 @@ fn place(
     size: usize,
     left: usize,
 ) -> placing::Restored
-    requires { ⌜ Room n (now s) × Rows n (now lists) × (me < n) × (d < 2 ^ 63) × Brief m × (size < 2 ^ 63) × (left < 2 ^ 63) ⌝ }
+    requires { ⌜ Room n (now s) × Rows n (now lists) × (me < n) × (d < 2 ^ 63) × Brief m × (size < 2 ^ 63) × (left < n) ⌝ }
     ensures { λ r. ⌜ (placement (now (lists .exit)) (now (s .exit)) r ≡ placed n me d m size left (now (lists .entry)) (now (s .entry))) × Room n (now (s .exit)) × Rows n (now (lists .exit)) × (r .count < 2 ^ 63) × (r .least < 2 ^ 63) ⌝ }
 {
     let r = placing::restore(lists, s, n, size, left, m.start, m.count, d);
     placing::finish_element(s, n, me, size, r.count);
     r
+}
+
+// How many variables are left of `n` when `gone` are gone: fewer than `n` in any case, as one is gone with every pivot.
+fn count_left(n: usize, gone: usize) -> usize
+    requires { ⌜ 0 < n ⌝ }
+    ensures { λ r. ⌜ (r ≡ leftOf n gone) × (r < n) ⌝ }
+{
+    let past = larger(gone, 1);
+    cells::less(n, past)
 }
 
 // The numbers of the next turn.
@@ -183,10 +192,10 @@ fn settle(
     t: Turn,
     gone: usize,
 ) -> Turn
-    requires { ⌜ Room n (now s) × Rows n (now lists) × (n < 2 ^ 63) × (me < n) × (d < 2 ^ 63) × Brief m × Few x × Small t × (gone < 2 ^ 63) ⌝ }
+    requires { ⌜ Room n (now s) × Rows n (now lists) × (me < n) × (d < 2 ^ 63) × Brief m × Few x × Small t × (gone < 2 ^ 63) ⌝ }
     ensures { λ r. ⌜ (stage (now (lists .exit)) (now (s .exit)) r ≡ settled n me d m x t gone (now (lists .entry)) (now (s .entry))) × Room n (now (s .exit)) × Rows n (now (lists .exit)) × Small r ⌝ }
 {
-    let left = cells::less(n, gone);
+    let left = count_left(n, gone);
     let r = place(lists, s, n, me, d, m, x.size, left);
     let free = free_end(m, t.made, r.count);
     let collections = cells::plus(t.collections, m.collected);
@@ -204,7 +213,7 @@ fn end_pivot(
     x: Met,
     t: Turn,
 ) -> Turn
-    requires { ⌜ Room n (now s) × Rows n (now lists) × (n < 2 ^ 63) × (me < n) × (d < 2 ^ 63) × Brief m × Few x × Small t ⌝ }
+    requires { ⌜ Room n (now s) × Rows n (now lists) × (me < n) × (d < 2 ^ 63) × Brief m × Few x × Small t ⌝ }
     ensures { λ r. ⌜ (stage (now (lists .exit)) (now (s .exit)) r ≡ ended n me d m x t (now (lists .entry)) (now (s .entry))) × Room n (now (s .exit)) × Rows n (now (lists .exit)) × Small r ⌝ }
 {
     let pivots = cells::look(s, n, cells::NV, me);
@@ -224,7 +233,7 @@ fn eliminate_pivot(
     aggressive: bool,
     t: Turn,
 ) -> Turn
-    requires { ⌜ Room n (now s) × Rows n (now lists) × (n < 2 ^ 63) × (me < n) × (d < 2 ^ 63) × Small t ⌝ }
+    requires { ⌜ Room n (now s) × Rows n (now lists) × (me < n) × (d < 2 ^ 63) × Small t ⌝ }
     ensures { λ r. ⌜ (stage (now (lists .exit)) (now (s .exit)) r ≡ pivotStep n me d aggressive t (now (lists .entry)) (now (s .entry))) × Room n (now (s .exit)) × Rows n (now (lists .exit)) × Small r ⌝ }
 {
     let m = opening::begin_pivot(lists, s, n, me, t.base, t.free, t.made);

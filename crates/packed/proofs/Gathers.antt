@@ -1,17 +1,14 @@
 -- The code of a gather is the model's: one law for each way out of a function.
 -- Assumes nothing.
-use Prim.Native.Nat.{_+_, _-_, _<_, _^_, _≤_, ℕ}
-use native.Mathlib.Omega.{arith}
+use Prim.Native.Nat.{_-_, _<_, _≤_, ℕ}
 use mathlib.Core.List.{List}
-use mathlib.Core.Logic.{⊎-elim}
 use mathlib.Core.Path.{_≡_, ap}
 use borrow.Author.Tests.{le-ltb, lt-ltb}
 use lib.IntN.{ℤ}
 use lib.ListN.{length}
-use Rattle.cells.proofs.Slices.{plus-cap, plus-sum, split}
 use Rattle.cells.specs.Layout.{ELEN, LEN, PE}
-use Rattle.cells.specs.View.{at, plus, rd, up, wr}
-use Rattle.packed.specs.Gather.{Cleared, addedLength, allLengths, cleared, collectedRest, cut, droppedAll, droppedAt, droppedPart, gatheredInside, gatheredOutside, inside, keptOne, madeRoom, outside, replaced, settled, summed}
+use Rattle.cells.specs.View.{at, plus, rd, up}
+use Rattle.packed.specs.Gather.{Cleared, addedLength, allLengths, cleared, collectedRest, droppedAll, droppedAt, droppedPart, gatheredInside, gatheredOutside, inside, madeRoom, outside, replaced, settled, summed}
 use Rattle.packed.specs.Model.{Heap, entered, heap, laid, packedAll, packedLow}
 use Rattle.packed.specs.Tray.{emptyTray, taking, tookAll, tookPart}
 use Rattle.packed.specs.declared.Tray.{Tray}
@@ -68,16 +65,3 @@ pub inside-step : (n me : ℕ) (l s : List ℤ) (p k : ℕ) (s₁ : List ℤ) (t
     → inside l₂ s₂ (t .cnt) ≡ gatheredInside n me l s
 unfolding gatheredInside replaced
 inside-step n me l s p k s₁ t l₂ s₂ hp hk ht hl hs = rw (← hp, ← hk, ← ht, hl, hs)
-
--- one more at most is kept
-pub keep-few : (c r : ℕ) → r ≡ plus c 1 → r ≤ c + 1
-keep-few c r e = ⊎-elim (λ h. omega (arith, e, plus-sum c 1 h)) (λ h. omega (arith, e, plus-cap c 1 h)) (split (c + 1) (2 ^ 63))
-
-module _ (n f : ℕ) (s : List ℤ) (q e : ℕ) (l : List ℤ) (c x w : ℕ) (hx : x ≡ at l q) (hw : w ≡ rd n f s x) where
-  pub keep-yes : (l₁ : List ℤ) (r : ℕ) → l₁ ≡ wr l e x → r ≡ plus c 1 → 0 < w → cut l₁ r ≡ keptOne n f s q e (cut l c)
-  unfolding keptOne
-  keep-yes l₁ r hl hr h = rw (← hx, ← hw, lt-ltb 0 w h, hl, hr)
-
-  pub keep-no : w ≤ 0 → cut l c ≡ keptOne n f s q e (cut l c)
-  unfolding keptOne
-  keep-no h = rw (← hx, ← hw, le-ltb 0 w h)

@@ -125,7 +125,7 @@ cut l c = record { lists = l; count = c }
 -- the number in cell q goes to cell e, if its field f is not 0
 unfoldable pub keptOne : ℕ → ℕ → List ℤ → ℕ → ℕ → Cut → Cut
 keptOne n f s q e m =
-    cond (ltb 0 (rd n f s (at (m .lists) q))) (cut (wr (m .lists) e (at (m .lists) q)) (plus (m .count) 1)) m
+    cond (ltb 0 (rd n f s (at (m .lists) q))) (cut (wr (m .lists) e (at (m .lists) q)) (m .count + 1)) m
 
 unfoldable pub keptPart : ℕ → ℕ → List ℤ → ℕ → ℕ → List ℤ → Cut
 keptPart n f s p k l = times (clipped (length l) p k) (λ t m. keptOne n f s (p + t) (p + m .count) m) (cut l 0)

@@ -1,7 +1,7 @@
 // Lists packed into one lent space, their collection to the space's beginning, and the list of a new element gathered from others.
 // Nothing here asks for a memory that makes sense, but for rows in the list space: a contract is the function's own model, and the laws of `proofs/` say what it does to the lists.
 ghost use mathlib.Core.Path.{_≡_};
-ghost use Prim.Native.Nat.{_+_, _<_, _≤_, _^_};
+ghost use Prim.Native.Nat.{_<_, _^_};
 ghost use lib.ListN.{length};
 ghost use Rattle.cells.specs.View.{Room, at, rd};
 ghost use Rattle.cells.specs.Rows.{Rows};
@@ -9,7 +9,7 @@ ghost use Rattle.cells.specs.Layout.{TMP};
 ghost use Rattle.packed.specs.Places.{places, due};
 ghost use Rattle.packed.specs.Model.{copied, heap, movedOne, movedLow, movedNext, movedNew, packedLow, packedAll, laidOne, laid, entered};
 ghost use Rattle.packed.specs.Tray.{Small, taking, counted, passedBy, took, tookPart, tookElement, tookElements, ownPart, tookAll};
-ghost use Rattle.packed.specs.Gather.{droppedAt, droppedPart, droppedAll, addedLength, allLengths, cleared, collectedRest, madeRoom, outside, Brief, summed, gatheredOutside, inside, gatheredInside, cut, keptOne, keptPart};
+ghost use Rattle.packed.specs.Gather.{droppedAt, droppedPart, droppedAll, addedLength, allLengths, cleared, collectedRest, madeRoom, outside, Brief, summed, gatheredOutside, inside, gatheredInside};
 
 // The end of the lists that go by number, and the end of all.
 pub struct Ends {
@@ -505,42 +505,4 @@ pub fn gather_in_place(lists: &mut [i64], s: &mut [i64], n: usize, me: usize) ->
     lay(lists, s, n, p, t.cnt);
     cells::set(s, n, cells::LEN, me, t.cnt);
     t.cnt
-}
-
-// ---- some of a list kept, in its own place
-
-// Cell `e` becomes the number in cell `q`, and one more is kept, if field `f` of that number is not 0.
-pub fn keep_one(
-    lists: &mut [i64],
-    s: &[i64],
-    n: usize,
-    f: usize,
-    q: usize,
-    e: usize,
-    cnt: usize,
-) -> usize
-    requires { ⌜ (f < 8) × Room n (now s) × Rows n (now lists) × (q < length (now lists)) × (e < length (now lists)) × (cnt < 2 ^ 63) ⌝ }
-    ensures { λ r. ⌜ (cut (now (lists .exit)) r ≡ keptOne n f (now (s .entry)) q e (cut (now (lists .entry)) cnt)) × Rows n (now (lists .exit)) × (r ≤ cnt + 1) × (r < 2 ^ 63) ⌝ }
-{
-    let x = cells::row(lists, n, q);
-    let w = cells::get(s, n, f, x);
-    if 0 < w {
-        cells::put_row(lists, n, e, x);
-        cells::plus(cnt, 1)
-    } else {
-        cnt
-    }
-}
-
-// Of the `k` numbers from `p` on, those whose field `f` is not 0, in order from `p` on. The result is how many they are.
-pub fn keep_in_place(lists: &mut [i64], s: &[i64], n: usize, f: usize, p: usize, k: usize) -> usize
-    requires { ⌜ (f < 8) × Room n (now s) × Rows n (now lists) × (p < 2 ^ 63) × (k < 2 ^ 63) ⌝ }
-    ensures { λ r. ⌜ (cut (now (lists .exit)) r ≡ keptPart n f (now (s .entry)) p k (now (lists .entry))) × Rows n (now (lists .exit)) × (r < 2 ^ 63) ⌝ }
-{
-    let m = cells::clip(lists.len(), p, k);
-    let mut cnt = 0;
-    for t in 0..m {
-        cnt = keep_one(lists, s, n, f, p + t, p + cnt, cnt);
-    }
-    cnt
 }

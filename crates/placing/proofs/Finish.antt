@@ -1,5 +1,5 @@
 -- Step 6 in the memory, against the definition's step from one state to the next: `ready`, `rest-after`, `trimmed-after`, `chained-after`, `least-after`,
--- `flagged-after`, `logged-after`; `by-contracts` leads from what the code's functions say of themselves.
+-- `flagged-after`, `logged-after`.
 -- Assumes nothing.
 use Prim.Native.Nat.{ℕ, _+_, _-_, _≤_, _<_, _^_}
 use native.Mathlib.Omega.{arith}
@@ -28,10 +28,10 @@ use Rattle.facts.proofs.Step.{after3, gone-after}
 use Rattle.facts.proofs.Stepped.{After, away, remains, afterMerge, afterTrim, inside, joined2, var-parent2}
 use Rattle.facts.proofs.Weighed.{pivot-heavy}
 use Rattle.facts.specs.Invariant.{Inv, Quotient, Var}
-use Rattle.cells.specs.Layout.{DEGREE, ELEN, HEAD, LAST, LEN, NEXT, PE, W, WANT}
+use Rattle.cells.specs.Layout.{DEGREE, ELEN, HEAD, LAST, LEN, NEXT, NV, PE, W, WANT}
 use Rattle.cells.specs.View.{rd}
 use Rattle.chain.specs.Chained.{Chained}
-use Rattle.packed.specs.Gather.{Cut, cut, keptPart}
+use Rattle.packed.specs.Gather.{Cut, keptPart}
 use Rattle.packed.specs.Places.{Owns, places}
 use Rattle.drawn.specs.Drawn.{Rest, Within}
 use Rattle.drawn.specs.Flags.{Flagged}
@@ -116,13 +116,13 @@ module _ {n : ℕ} (keyOf : ℕ → ℕ) (aggressive : Bool) (st : State) (inv :
         fresh = λ v e i he. fresh v e i;
       }
 
-  module _ (l s : List ℤ) (cnt base lim : ℕ) (h : Within n l s g3 p new cnt base lim) (chained : Chained n s (queueOf queues)) (narrow : length l < 2 ^ 63) where
+  module _ (l s : List ℤ) (cnt base lim : ℕ) (h : Within n l s g3 p new cnt base lim) (chained : Chained n s (queueOf queues)) where
     -- what the code has: after the survivors are placed, after they are kept, after the element is finished
     abbrev spot1 : Spot
     spot1 = placedAll n size left l (rd n PE s p) (rd n LEN s p) (spot s d)
 
     abbrev kept1 : Cut
-    kept1 = keptPart n WANT (spot1 .mem) (rd n PE s p) (rd n LEN s p) l
+    kept1 = keptPart n NV s (rd n PE s p) (rd n LEN s p) l
 
     abbrev done : List ℤ
     done = finished n (spot1 .mem) p size (kept1 .count)
@@ -130,65 +130,49 @@ module _ {n : ℕ} (keyOf : ℕ → ℕ) (aggressive : Bool) (st : State) (inv :
     -- the memory holds the next state's graph
     pub rest-after : Rest n (kept1 .lists) done (next .graph) cnt base lim
     unfolding eliminate finish
-    rest-after = placed-rest n l s g3 p new cnt base lim h queues ready chained left size (omega arith) d narrow
+    rest-after = placed-rest n l s g3 p new cnt base lim h queues ready chained left size (omega arith) d
 
     -- where the element was made behind all others the limit is its end
     pub trimmed-after : base ≤ rd n PE s p → rd n PE s p ≤ lim → ((i c : ℕ) → i ≢ p → Owns (places n s) i c → c < rd n PE s p)
         → Rest n (kept1 .lists) done (next .graph) cnt base (rd n PE s p + kept1 .count)
     unfolding eliminate finish
-    trimmed-after = placed-trimmed n l s g3 p new cnt base lim h queues ready chained left size (omega arith) d narrow
+    trimmed-after = placed-trimmed n l s g3 p new cnt base lim h queues ready chained left size (omega arith) d
 
     -- and its degree lists
     pub chained-after : Chained n done (queueOf (next .queues))
     unfolding eliminate finish
-    chained-after = placed-chained n l s g3 p new cnt base lim h queues ready chained left size (omega arith) d narrow
+    chained-after = placed-chained n l s g3 p new cnt base lim h queues ready chained left size (omega arith) d
 
     -- and the code has its least degree
     pub least-after : spot1 .least ≡ next .least
     unfolding eliminate finish
-    least-after = placed-least n l s g3 p new cnt base lim h queues ready chained left size (omega arith) d narrow
+    least-after = placed-least n l s g3 p new cnt base lim h queues ready chained left size (omega arith) d
 
     -- the survivors are counted
     pub count-after : kept1 .count ≡ length (keep (hasWeight g3) new)
-    count-after = placed-count n l s g3 p new cnt base lim h queues ready chained left size (omega arith) d narrow
+    count-after = placed-count n l s g3 p new cnt base lim h queues ready chained left size (omega arith) d
 
     pub flagged-after : (flag : ℕ) → 1 < flag → Flagged n s g3 flag → Flagged n done (next .graph) flag
     unfolding eliminate finish
-    flagged-after = placed-flagged n l s g3 p new cnt base lim h queues ready chained left size (omega arith) d narrow
+    flagged-after = placed-flagged n l s g3 p new cnt base lim h queues ready chained left size (omega arith) d
 
     -- the log of merges
     pub logged-after : (ms : List ℕ) → Logged n s g3 ms → Logged n done (next .graph) ms
     unfolding eliminate finish
-    logged-after = placed-logged n l s g3 p new cnt base lim h queues ready chained left size (omega arith) d narrow pivot-kept
+    logged-after = placed-logged n l s g3 p new cnt base lim h queues ready chained left size (omega arith) d pivot-kept
 
     -- the new element's size
     pub size-after : weight g3 p + size < 2 ^ 63 → rd n ELEN done p ≡ weight (next .graph) p + degree (next .graph) p
     unfolding eliminate finish
-    size-after = placed-size n l s g3 p new cnt base lim h queues ready chained left size (omega arith) d narrow
+    size-after = placed-size n l s g3 p new cnt base lim h queues ready chained left size (omega arith) d
 
     pub long-after : length (kept1 .lists) ≡ length l
-    long-after = placed-long n l s g3 p new cnt base lim h queues ready chained left size (omega arith) d narrow
+    long-after = placed-long n l s g3 p new cnt base lim h queues ready chained left size (omega arith) d
 
     -- every field that step 6 does not write, and those that it writes at the pivot alone
     pub fields-after : (f v : ℕ) → eqb HEAD f ≡ false → eqb NEXT f ≡ false → eqb LAST f ≡ false → eqb DEGREE f ≡ false → eqb WANT f ≡ false → eqb LEN f ≡ false
         → eqb ELEN f ≡ false → eqb W f ≡ false → eqb PE f ≡ false → rd n f done v ≡ rd n f s v
-    fields-after = placed-fields n l s g3 p new cnt base lim h queues ready chained left size (omega arith) d narrow
+    fields-after = placed-fields n l s g3 p new cnt base lim h queues ready chained left size (omega arith) d
 
     pub others-after : (f v : ℕ) → v ≢ p → eqb HEAD f ≡ false → eqb NEXT f ≡ false → eqb LAST f ≡ false → eqb DEGREE f ≡ false → eqb WANT f ≡ false → rd n f done v ≡ rd n f s v
-    others-after = placed-others n l s g3 p new cnt base lim h queues ready chained left size (omega arith) d narrow
-
-    -- what the two functions say of themselves is what these theorems are about
-    pub by-contracts : (from k : ℕ) (l2 s1 s2 : List ℤ) (count least : ℕ) → from ≡ rd n PE s p → k ≡ rd n LEN s p
-        → spot s1 least ≡ placedAll n size left l from k (spot s d) → cut l2 count ≡ keptPart n WANT s1 from k l → s2 ≡ finished n s1 p size count
-        → (l2 ≡ kept1 .lists) × (s2 ≡ done) × (count ≡ kept1 .count) × (least ≡ spot1 .least)
-    by-contracts from k l2 s1 s2 count least hf hk hp hc hs =
-        let a : spot s1 least ≡ spot1 = hp ∙ ap (λ (x : ℕ). placedAll n size left l x k (spot s d)) hf ∙ ap (λ (x : ℕ). placedAll n size left l (rd n PE s p) x (spot s d)) hk in
-        let b : s1 ≡ spot1 .mem = ap (λ (x : Spot). x .mem) a in
-        let c : cut l2 count ≡ kept1 =
-        hc ∙ ap (λ (x : ℕ). keptPart n WANT s1 x k l) hf ∙ ap (λ (x : ℕ). keptPart n WANT s1 (rd n PE s p) x l) hk
-        ∙ ap (λ (x : List ℤ). keptPart n WANT x (rd n PE s p) (rd n LEN s p) l) b in (
-          ap (λ (x : Cut). x .lists) c,
-          hs ∙ ap (λ (x : List ℤ). finished n x p size count) b ∙ ap (λ (x : Cut). finished n (spot1 .mem) p size (x .count)) c,
-          ap (λ (x : Cut). x .count) c,
-          ap (λ (x : Spot). x .least) a,
-        )
+    others-after = placed-others n l s g3 p new cnt base lim h queues ready chained left size (omega arith) d

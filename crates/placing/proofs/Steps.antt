@@ -3,7 +3,7 @@
 use Prim.Native.Nat.{ℕ, _+_, _-_, _<_, _≤_, min}
 use native.Mathlib.Omega.{arith}
 use native.Mathlib.Nat.{min-eq-left, min-eq-right}
-use mathlib.Core.Path.{_≡_, sym}
+use mathlib.Core.Path.{_≡_}
 use mathlib.Core.List.{List}
 use borrow.Author.Tests.{lt-ltb, le-ltb}
 use lib.IntN.{ℤ}
@@ -19,14 +19,13 @@ min-first a b h = min-eq-left h
 min-second : (a b : ℕ) → b ≤ a → min a b ≡ b
 min-second a b h = min-eq-right h
 
-module _ (old size left own a b : ℕ) (ha : a ≡ old + size - own) (hb : b ≡ left - own) where
-  pub by-element : a < b → a ≡ degreeOf old size left own
-  unfolding degreeOf
-  by-element h = rw (← ha, ← hb) (sym (min-first a b (omega arith)))
+-- the smaller first, then one difference
+pub degree-step : (old size left own most r : ℕ) → most ≡ min (old + size) left → r ≡ most - own → r ≡ degreeOf old size left own
+unfolding degreeOf
+degree-step old size left own most r hm hr = omega arith
 
-  pub by-rest : b ≤ a → b ≡ degreeOf old size left own
-  unfolding degreeOf
-  by-rest h = rw (← ha, ← hb) (sym (min-second a b h))
+pub degree-low : (old size left own most r : ℕ) → most ≡ min (old + size) left → r ≡ most - own → r ≤ left
+degree-low old size left own most r hm hr = omega arith
 
 module _ (n size left i own : ℕ) (s : List ℤ) (least old d : ℕ) (t r : List ℤ) (ho : old ≡ rd n DEGREE s i) (hd : d ≡ degreeOf old size left own)
     (ht : t ≡ up n WANT s i own) (hr : r ≡ pushed n t d i) where

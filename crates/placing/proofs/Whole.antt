@@ -7,12 +7,11 @@ use mathlib.Core.Logic.{_≢_, _⊎_, inl, inr, ⊎-elim}
 use mathlib.Core.Bool.{Bool, true, false, cond, not, _&&_}
 use mathlib.Core.List.{List, [], _∷_, foldl}
 use mathlib.Core.Option.{Option, none, some}
-use borrow.Author.Tests.{le-ltb, ltb-false}
 use lib.Dec.{eqb, ltb}
 use lib.IntN.{ℤ}
 use lib.ListN.{length, getD}
 use Rattle.plain.proofs.Entries.{upd-same, upd-other}
-use Rattle.plain.proofs.Logic.{clash, either}
+use Rattle.plain.proofs.Logic.{clash}
 use Rattle.plain.proofs.Members.{member-here, member-there, member-nil, not-cons, apart, not-kept, keep-same}
 use Rattle.plain.proofs.Repeats.{length-keep}
 use Rattle.plain.proofs.Turns.{times-fold}
@@ -32,7 +31,7 @@ use Rattle.cells.specs.Links.{parent}
 use Rattle.cells.specs.View.{at, rd, plus}
 use Rattle.chain.specs.Chained.{Chained}
 use Rattle.packed.proofs.Frame.{ends, inside-space, len-of}
-use Rattle.packed.proofs.Keeping.{kept-part, space-kept}
+use Rattle.packed.proofs.Keeping.{kept-by, kept-part, space-kept}
 use Rattle.packed.proofs.Spaces.{space-lowered, space-same, space-renamed}
 use Rattle.packed.specs.Gather.{Cut, keptPart}
 use Rattle.packed.specs.Places.{Owns, Space, places}
@@ -66,7 +65,7 @@ and-no true = refl
 and-no false = refl
 
 module _ (n : ℕ) (l s : List ℤ) (g : Graph) (p : ℕ) (new : List ℕ) (cnt base lim : ℕ) (h : Within n l s g p new cnt base lim)
-    (qs : List (List ℕ)) (ready : Ready n g p new qs) (chained : Chained n s (queueOf qs)) (left size : ℕ) (few : left ≤ n) (d : ℕ) (narrow : length l < 2 ^ 63) where
+    (qs : List (List ℕ)) (ready : Ready n g p new qs) (chained : Chained n s (queueOf qs)) (left size : ℕ) (few : left ≤ n) (d : ℕ) where
   abbrev X : ℕ → List ℕ
   X = upd (listOf g) p new
 
@@ -88,7 +87,7 @@ module _ (n : ℕ) (l s : List ℤ) (g : Graph) (p : ℕ) (new : List ℕ) (cnt 
   s1 = m1 .mem
 
   abbrev kept : Cut
-  kept = keptPart n WANT s1 (rd n PE s p) (rd n LEN s p) l
+  kept = keptPart n NV s (rd n PE s p) (rd n LEN s p) l
 
   abbrev s2 : List ℤ
   s2 = finished n s1 p size (kept .count)
@@ -173,17 +172,9 @@ module _ (n : ℕ) (l s : List ℤ) (g : Graph) (p : ℕ) (new : List ℕ) (cnt 
       go true = refl
       go false = refl
 
-  -- who is wanted again
-  survives : (v : ℕ) → In v new → ltb 0 (rd n WANT s1 v) ≡ hasWeight g v
-  survives v i =
-      ap (ltb 0) (want-one v (ready .below v i) (apart-p v i))
-      ∙ either (ltb 0 (cond (isVariable (kind g v)) (weight g v) 0) ≡ hasWeight g v) (hasWeight g v)
-      (λ e. ap (λ (b : Bool). ltb 0 (cond b (weight g v) 0)) (ready .variables v i e))
-      (λ e. le-ltb 0 (cond (isVariable (kind g v)) (weight g v) 0) (small (isVariable (kind g v)) (weight g v) (ltb-false 0 (weight g v) e)) ∙ sym e)
-    where
-      small : (b : Bool) (x : ℕ) → x ≤ 0 → cond b x 0 ≤ 0
-      small true x a = a
-      small false x a = omega arith
+  -- who survives
+  survives : (v : ℕ) → In v new → ltb 0 (rd n NV s1 v) ≡ hasWeight g v
+  survives v i = ap (ltb 0) (half .fields NV v refl refl refl refl refl ∙ h .weights v (ready .below v i))
 
   -- ---- the lists
 
@@ -192,14 +183,16 @@ module _ (n : ℕ) (l s : List ℤ) (g : Graph) (p : ℕ) (new : List ℕ) (cnt 
       space-same n X l s cnt base lim (h .space) s1 (half .room) (λ i. half .fields PE i refl refl refl refl refl) (λ i. half .fields LEN i refl refl refl refl refl)
       (λ i. half .fields ORD i refl refl refl refl refl)
 
-  kept-same : keptPart n WANT s1 (rd n PE s1 p) (rd n LEN s1 p) l ≡ kept
-  kept-same = rw (half .fields PE p refl refl refl refl refl, half .fields LEN p refl refl refl refl refl)
+  kept-same : keptPart n NV s1 (rd n PE s1 p) (rd n LEN s1 p) l ≡ kept
+  kept-same =
+      rw (half .fields PE p refl refl refl refl refl, half .fields LEN p refl refl refl refl refl)
+      (kept-by n NV s s1 l (rd n PE s p) (rd n LEN s p) (λ v. half .fields NV v refl refl refl refl refl))
 
-  space2 : Space n (upd X p (keep (λ v. ltb 0 (rd n WANT s1 v)) (X p))) (kept .lists) s2 cnt base lim
+  space2 : Space n (upd X p (keep (λ v. ltb 0 (rd n NV s1 v)) (X p))) (kept .lists) s2 cnt base lim
   space2 =
       finished-space n s1 p size (kept .count) _ (kept .lists) cnt base lim (half .room) (ready .inside)
-      (subst (λ (c : Cut). Space n (upd X p (keep (λ v. ltb 0 (rd n WANT s1 v)) (X p))) (c .lists) (Rattle.cells.specs.View.up n LEN s1 p (c .count)) cnt base lim) kept-same
-      (space-kept n X l s1 cnt base lim space1 narrow WANT p (ready .inside)))
+      (subst (λ (c : Cut). Space n (upd X p (keep (λ v. ltb 0 (rd n NV s1 v)) (X p))) (c .lists) (Rattle.cells.specs.View.up n LEN s1 p (c .count)) cnt base lim) kept-same
+      (space-kept n X l s1 cnt base lim space1 NV p (ready .inside)))
 
   list-p : listOf t p ≡ survivors
   unfolding listOf
@@ -209,11 +202,11 @@ module _ (n : ℕ) (l s : List ℤ) (g : Graph) (p : ℕ) (new : List ℕ) (cnt 
   unfolding listOf
   list-t v ne = rw (row .weights v, row .parents v, row .elements v ne, row .variables v ne)
 
-  list-at : (v : ℕ) → (v ≡ p) ⊎ (v ≢ p) → upd X p (keep (λ v. ltb 0 (rd n WANT s1 v)) (X p)) v ≡ listOf t v
+  list-at : (v : ℕ) → (v ≡ p) ⊎ (v ≢ p) → upd X p (keep (λ v. ltb 0 (rd n NV s1 v)) (X p)) v ≡ listOf t v
   list-at v (inl e) =
-      subst⁻¹ (λ (x : ℕ). upd X p (keep (λ v. ltb 0 (rd n WANT s1 v)) (X p)) x ≡ listOf t x) e
-      (upd-same X p (keep (λ v. ltb 0 (rd n WANT s1 v)) (X p)) ∙ ap (keep (λ v. ltb 0 (rd n WANT s1 v))) (upd-same (listOf g) p new)
-      ∙ keep-same (λ v. ltb 0 (rd n WANT s1 v)) (hasWeight g) new survives ∙ sym list-p)
+      subst⁻¹ (λ (x : ℕ). upd X p (keep (λ v. ltb 0 (rd n NV s1 v)) (X p)) x ≡ listOf t x) e
+      (upd-same X p (keep (λ v. ltb 0 (rd n NV s1 v)) (X p)) ∙ ap (keep (λ v. ltb 0 (rd n NV s1 v))) (upd-same (listOf g) p new)
+      ∙ keep-same (λ v. ltb 0 (rd n NV s1 v)) (hasWeight g) new survives ∙ sym list-p)
   list-at v (inr ne) = upd-other X p _ v ne ∙ upd-other (listOf g) p new v ne ∙ list-t v ne
 
   space3 : Space n (listOf t) (kept .lists) s2 cnt base lim
@@ -324,8 +317,7 @@ module _ (n : ℕ) (l s : List ℤ) (g : Graph) (p : ℕ) (new : List ℕ) (cnt 
   -- the list space is as long as it was
   pub placed-long : length (kept .lists) ≡ length l
   placed-long =
-      kept-part n WANT s1 l (rd n PE s p) (rd n LEN s p)
-      (⊎-elim (λ z. omega (arith, ends l (places n s) lim X (h .space .lists) p z, h .space .lists .fits)) (λ z. omega arith) (split 0 (rd n LEN s p)))
+      kept-part n NV s l (rd n PE s p) (rd n LEN s p)
       (λ z. omega (arith, ends l (places n s) lim X (h .space .lists) p z, h .space .lists .fits))
       .long
 

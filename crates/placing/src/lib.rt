@@ -1,12 +1,12 @@
 // Step 6 of the elimination: the survivors of a new element get their degrees and go to the front of their lists, and the pivot's row becomes the element.
 // Nothing here asks for a memory that makes sense, but for rows in the list space: a contract is the function's own model, and the laws of `proofs/` say what it does to the graph.
 ghost use mathlib.Core.Path.{_≡_};
-ghost use Prim.Native.Nat.{_+_, _<_, _^_};
+ghost use Prim.Native.Nat.{_<_, _≤_, _^_, min};
 ghost use lib.ListN.{length};
 ghost use Rattle.cells.specs.View.{Room, at};
 ghost use Rattle.cells.specs.Rows.{Rows};
-ghost use Rattle.cells.specs.Layout.{WANT};
-ghost use Rattle.packed.specs.Gather.{cut, keptPart};
+ghost use Rattle.cells.specs.Layout.{NV};
+ghost use Rattle.packed.specs.Gather.{cut, keptOne, keptPart};
 ghost use Rattle.placing.specs.Model.{degreeOf, spot, placedRow, placedOne, placedAll, sealed, marked, finished};
 
 // How many rows survive in the new element, and the least degree.
@@ -15,18 +15,25 @@ pub struct Restored {
     pub least: usize,
 }
 
+// Where the survivors so far end, and the least degree so far.
+pub struct Reached {
+    pub end: usize,
+    pub least: usize,
+}
+
+fn smaller(a: usize, b: usize) -> usize
+    ensures { λ r. ⌜ r ≡ min a b ⌝ }
+{
+    if a < b { a } else { b }
+}
+
 // The degree of a row of degree `old` and weight `own` in a new element of weight `size`, where `left` variables are left.
 fn new_degree(old: usize, size: usize, left: usize, own: usize) -> usize
-    requires { ⌜ (old < 2 ^ 63) × (size < 2 ^ 63) × (left < 2 ^ 63) ⌝ }
-    ensures { λ r. ⌜ (r ≡ degreeOf old size left own) × (r < 2 ^ 63) ⌝ }
+    requires { ⌜ (old < 2 ^ 63) × (size < 2 ^ 63) ⌝ }
+    ensures { λ r. ⌜ (r ≡ degreeOf old size left own) × (r ≤ left) ⌝ }
 {
-    let by_element = cells::less(old + size, own);
-    let by_rest = cells::less(left, own);
-    if by_element < by_rest {
-        by_element
-    } else {
-        by_rest
-    }
+    let most = smaller(old + size, left);
+    cells::less(most, own)
 }
 
 // Row `i`, of weight `own`, is wanted again, and goes to the front of the list of its new degree. The result is the least degree.
@@ -39,7 +46,7 @@ fn restore_row(
     own: usize,
     least: usize,
 ) -> usize
-    requires { ⌜ Room n (now s) × (size < 2 ^ 63) × (left < 2 ^ 63) × (i < n) × (own < 2 ^ 63) × (least < 2 ^ 63) ⌝ }
+    requires { ⌜ Room n (now s) × (size < 2 ^ 63) × (left < n) × (i < n) × (own < 2 ^ 63) × (least < 2 ^ 63) ⌝ }
     ensures { λ r. ⌜ (spot (now (s .exit)) r ≡ placedRow n size left i own (spot (now (s .entry)) least)) × Room n (now (s .exit)) × (r < 2 ^ 63) ⌝ }
 {
     let old = cells::get(s, n, cells::DEGREE, i);
@@ -49,48 +56,32 @@ fn restore_row(
     if d < least { d } else { least }
 }
 
-// The same of the row in cell `q` of the list space, if it has a weight: a merged row has none.
+// The row in cell `q` of the list space, if it has a weight, is placed and kept at the end of the survivors: a merged row has none.
 fn restore_one(
-    lists: &[i64],
+    lists: &mut [i64],
     s: &mut [i64],
     n: usize,
     size: usize,
     left: usize,
     q: usize,
-    least: usize,
-) -> usize
-    requires { ⌜ Room n (now s) × Rows n (now lists) × (size < 2 ^ 63) × (left < 2 ^ 63) × (q < length (now lists)) × (least < 2 ^ 63) ⌝ }
-    ensures { λ r. ⌜ (spot (now (s .exit)) r ≡ placedOne n size left (at (now (lists .entry)) q) (spot (now (s .entry)) least)) × Room n (now (s .exit)) × (r < 2 ^ 63) ⌝ }
+    r: Reached,
+) -> Reached
+    requires { ⌜ Room n (now s) × Rows n (now lists) × (size < 2 ^ 63) × (left < n) × (q < length (now lists)) × (r .end ≤ q) × (r .least < 2 ^ 63) ⌝ }
+    ensures { λ x. ⌜ (spot (now (s .exit)) (x .least) ≡ placedOne n size left (at (now (lists .entry)) q) (spot (now (s .entry)) (r .least))) × (cut (now (lists .exit)) (x .end) ≡ keptOne n NV (now (s .entry)) q (r .end) (cut (now (lists .entry)) (r .end))) × Room n (now (s .exit)) × Rows n (now (lists .exit)) × (x .least < 2 ^ 63) ⌝ }
 {
     let i = cells::row(lists, n, q);
     let own = cells::look(s, n, cells::NV, i);
     if 0 < own {
-        restore_row(s, n, size, left, i, own, least)
+        let least = restore_row(s, n, size, left, i, own, r.least);
+        cells::put_row(lists, n, r.end, i);
+        let end = r.end + 1;
+        Reached {
+            end: end,
+            least: least,
+        }
     } else {
-        least
+        r
     }
-}
-
-// The same of the rows in the `k` cells from `from` on, in order.
-fn restore_all(
-    lists: &[i64],
-    s: &mut [i64],
-    n: usize,
-    size: usize,
-    left: usize,
-    from: usize,
-    k: usize,
-    start: usize,
-) -> usize
-    requires { ⌜ Room n (now s) × Rows n (now lists) × (size < 2 ^ 63) × (left < 2 ^ 63) × (from < 2 ^ 63) × (k < 2 ^ 63) × (start < 2 ^ 63) ⌝ }
-    ensures { λ r. ⌜ (spot (now (s .exit)) r ≡ placedAll n size left (now (lists .entry)) from k (spot (now (s .entry)) start)) × Room n (now (s .exit)) × (r < 2 ^ 63) ⌝ }
-{
-    let mut least = start;
-    let there = cells::clip(lists.len(), from, k);
-    for t in 0..there {
-        least = restore_one(lists, s, n, size, left, from + t, least);
-    }
-    least
 }
 
 // The survivors among the `k` rows from `from` on: each is placed, and they alone are kept there.
@@ -104,14 +95,21 @@ pub fn restore(
     k: usize,
     start: usize,
 ) -> Restored
-    requires { ⌜ Room n (now s) × Rows n (now lists) × (size < 2 ^ 63) × (left < 2 ^ 63) × (from < 2 ^ 63) × (k < 2 ^ 63) × (start < 2 ^ 63) ⌝ }
-    ensures { λ r. ⌜ (spot (now (s .exit)) (r .least) ≡ placedAll n size left (now (lists .entry)) from k (spot (now (s .entry)) start)) × (cut (now (lists .exit)) (r .count) ≡ keptPart n WANT (now (s .exit)) from k (now (lists .entry))) × Room n (now (s .exit)) × Rows n (now (lists .exit)) × (r .count < 2 ^ 63) × (r .least < 2 ^ 63) ⌝ }
+    requires { ⌜ Room n (now s) × Rows n (now lists) × (size < 2 ^ 63) × (left < n) × (from < 2 ^ 63) × (k < 2 ^ 63) × (start < 2 ^ 63) ⌝ }
+    ensures { λ r. ⌜ (spot (now (s .exit)) (r .least) ≡ placedAll n size left (now (lists .entry)) from k (spot (now (s .entry)) start)) × (cut (now (lists .exit)) (r .count) ≡ keptPart n NV (now (s .entry)) from k (now (lists .entry))) × Room n (now (s .exit)) × Rows n (now (lists .exit)) × (r .count < 2 ^ 63) × (r .least < 2 ^ 63) ⌝ }
 {
-    let least = restore_all(lists, s, n, size, left, from, k, start);
-    let count = packed::keep_in_place(lists, s, n, cells::WANT, from, k);
+    let there = cells::clip(lists.len(), from, k);
+    let mut r = Reached {
+        end: from,
+        least: start,
+    };
+    for q in from..from + there {
+        r = restore_one(lists, s, n, size, left, q, r);
+    }
+    let count = r.end - from;
     Restored {
         count: count,
-        least: least,
+        least: r.least,
     }
 }
 

@@ -68,45 +68,45 @@ module _ {N n nd size : ℕ} {l s : List ℤ} {t : Turn} {x : Outcomes.Statistic
   -- ---- the memory
 
   pub rest₅ : drawn.Rest n (kept₅ b aggressive .lists) (done₅ b aggressive) (next b aggressive .graph) (begun b .made .made) (begun b .made .base) (begun b .made .free)
-  rest₅ = rest-after (plainKey n) aggressive st (b .inv) p d (chosen b) L₄ S₄ cnt base lim drawn₄ (chained₄ b aggressive (left-few b aggressive)) narrow
+  rest₅ = rest-after (plainKey n) aggressive st (b .inv) p d (chosen b) L₄ S₄ cnt base lim drawn₄ (chained₄ b aggressive (left-few b aggressive))
 
   pub trimmed₅ : begun b .made .base ≤ rd n PE (merges b aggressive (left-few b aggressive) .mem) p → rd n PE (merges b aggressive (left-few b aggressive) .mem) p ≤ begun b .made .free
       → ((i c : ℕ) → i ≢ p → Owns (places n (merges b aggressive (left-few b aggressive) .mem)) i c → c < rd n PE (merges b aggressive (left-few b aggressive) .mem) p)
       → drawn.Rest n (kept₅ b aggressive .lists) (done₅ b aggressive) (next b aggressive .graph) (begun b .made .made) (begun b .made .base) (rd n PE (merges b aggressive (left-few b aggressive) .mem) p + kept₅ b aggressive .count)
-  trimmed₅ = trimmed-after (plainKey n) aggressive st (b .inv) p d (chosen b) L₄ S₄ cnt base lim drawn₄ (chained₄ b aggressive (left-few b aggressive)) narrow
+  trimmed₅ = trimmed-after (plainKey n) aggressive st (b .inv) p d (chosen b) L₄ S₄ cnt base lim drawn₄ (chained₄ b aggressive (left-few b aggressive))
 
   pub chained₅ : Chained n (done₅ b aggressive) (queueOf (next b aggressive .queues))
-  chained₅ = chained-after (plainKey n) aggressive st (b .inv) p d (chosen b) L₄ S₄ cnt base lim drawn₄ (chained₄ b aggressive (left-few b aggressive)) narrow
+  chained₅ = chained-after (plainKey n) aggressive st (b .inv) p d (chosen b) L₄ S₄ cnt base lim drawn₄ (chained₄ b aggressive (left-few b aggressive))
 
   pub least₅ : spot₅ b aggressive .least ≡ next b aggressive .least
-  least₅ = least-after (plainKey n) aggressive st (b .inv) p d (chosen b) L₄ S₄ cnt base lim drawn₄ (chained₄ b aggressive (left-few b aggressive)) narrow
+  least₅ = least-after (plainKey n) aggressive st (b .inv) p d (chosen b) L₄ S₄ cnt base lim drawn₄ (chained₄ b aggressive (left-few b aggressive))
 
   pub survivors₅ : kept₅ b aggressive .count ≡ length (keep (hasWeight (afterMerge (plainKey n) aggressive (st .graph) p)) (collected (st .graph) p))
-  survivors₅ = count-after (plainKey n) aggressive st (b .inv) p d (chosen b) L₄ S₄ cnt base lim drawn₄ (chained₄ b aggressive (left-few b aggressive)) narrow
+  survivors₅ = count-after (plainKey n) aggressive st (b .inv) p d (chosen b) L₄ S₄ cnt base lim drawn₄ (chained₄ b aggressive (left-few b aggressive))
 
   pub flagged₅ : Flagged n (done₅ b aggressive) (next b aggressive .graph) (merges b aggressive (left-few b aggressive) .tally .flag)
   flagged₅ =
-      flagged-after (plainKey n) aggressive st (b .inv) p d (chosen b) L₄ S₄ cnt base lim drawn₄ (chained₄ b aggressive (left-few b aggressive)) narrow
+      flagged-after (plainKey n) aggressive st (b .inv) p d (chosen b) L₄ S₄ cnt base lim drawn₄ (chained₄ b aggressive (left-few b aggressive))
       (merges b aggressive (left-few b aggressive) .tally .flag) (two₄ b aggressive (left-few b aggressive)) (flagged₄ b aggressive (left-few b aggressive))
 
   pub logged₅ : Logged n (done₅ b aggressive) (next b aggressive .graph) (merged₄ b aggressive (left-few b aggressive) .ms)
   logged₅ =
-      logged-after (plainKey n) aggressive st (b .inv) p d (chosen b) L₄ S₄ cnt base lim drawn₄ (chained₄ b aggressive (left-few b aggressive)) narrow
+      logged-after (plainKey n) aggressive st (b .inv) p d (chosen b) L₄ S₄ cnt base lim drawn₄ (chained₄ b aggressive (left-few b aggressive))
       (merged₄ b aggressive (left-few b aggressive) .ms) (merged₄ b aggressive (left-few b aggressive) .logged)
 
   pub size₅ : rd n ELEN (done₅ b aggressive) p ≡ weight (next b aggressive .graph) p + degree (next b aggressive .graph) p
   size₅ =
-      size-after (plainKey n) aggressive st (b .inv) p d (chosen b) L₄ S₄ cnt base lim drawn₄ (chained₄ b aggressive (left-few b aggressive)) narrow
+      size-after (plainKey n) aggressive st (b .inv) p d (chosen b) L₄ S₄ cnt base lim drawn₄ (chained₄ b aggressive (left-few b aggressive))
       (omega (arith, gone-next b aggressive, gone-low b aggressive, rest-low b aggressive, b .many, b .few))
 
   pub long₅ : length (kept₅ b aggressive .lists) ≡ size
-  long₅ = long-after (plainKey n) aggressive st (b .inv) p d (chosen b) L₄ S₄ cnt base lim drawn₄ (chained₄ b aggressive (left-few b aggressive)) narrow ∙ trimmed₃ b aggressive .long ∙ long₁ b
+  long₅ = long-after (plainKey n) aggressive st (b .inv) p d (chosen b) L₄ S₄ cnt base lim drawn₄ (chained₄ b aggressive (left-few b aggressive)) ∙ trimmed₃ b aggressive .long ∙ long₁ b
 
   -- every field that step 6 does not write, and those that it writes at the pivot alone
   pub unwritten₅ : (f v : ℕ) → eqb HEAD f ≡ false → eqb NEXT f ≡ false → eqb LAST f ≡ false → eqb DEGREE f ≡ false → eqb WANT f ≡ false → eqb LEN f ≡ false
       → eqb ELEN f ≡ false → eqb W f ≡ false → eqb PE f ≡ false → rd n f (done₅ b aggressive) v ≡ rd n f (merges b aggressive (left-few b aggressive) .mem) v
-  unwritten₅ = fields-after (plainKey n) aggressive st (b .inv) p d (chosen b) L₄ S₄ cnt base lim drawn₄ (chained₄ b aggressive (left-few b aggressive)) narrow
+  unwritten₅ = fields-after (plainKey n) aggressive st (b .inv) p d (chosen b) L₄ S₄ cnt base lim drawn₄ (chained₄ b aggressive (left-few b aggressive))
 
   pub others₅ : (f v : ℕ) → v ≢ p → eqb HEAD f ≡ false → eqb NEXT f ≡ false → eqb LAST f ≡ false → eqb DEGREE f ≡ false → eqb WANT f ≡ false
       → rd n f (done₅ b aggressive) v ≡ rd n f (merges b aggressive (left-few b aggressive) .mem) v
-  others₅ = others-after (plainKey n) aggressive st (b .inv) p d (chosen b) L₄ S₄ cnt base lim drawn₄ (chained₄ b aggressive (left-few b aggressive)) narrow
+  others₅ = others-after (plainKey n) aggressive st (b .inv) p d (chosen b) L₄ S₄ cnt base lim drawn₄ (chained₄ b aggressive (left-few b aggressive))

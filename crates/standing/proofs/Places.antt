@@ -5,6 +5,7 @@ use native.Mathlib.Omega.{arith}
 use mathlib.Core.Bool.{Bool}
 use mathlib.Core.List.{List, _∷_}
 use mathlib.Core.Path.{_≡_, _∙_, ap, refl, sym}
+use borrow.Author.Tests.{ltb-true}
 use lib.IntN.{ℤ}
 use Rattle.plain.proofs.Members.{not-kept}
 use Rattle.plain.specs.Lists.{keep, total}
@@ -21,12 +22,13 @@ use Rattle.facts.proofs.Stepped.{afterMerge, afterTrim, joined2}
 use Rattle.facts.proofs.Theorem.{inv-eliminate}
 use Rattle.facts.proofs.Weights.{conserved3, heavy-all}
 use Rattle.cells.proofs.Slices.{plus-sum}
-use Rattle.cells.specs.Layout.{LEN, NV, PE, WANT}
+use Rattle.cells.specs.Layout.{LEN, NV, PE}
 use Rattle.cells.specs.View.{plus, rd}
 use Rattle.packed.specs.Gather.{Cut, keptPart}
+use Rattle.placing.proofs.Finish.{ready}
 use Rattle.placing.specs.Model.{Spot, finished, placedAll, spot}
 use Rattle.elimination.specs.declared.Turn.{Turn}
-use Rattle.elimination.specs.Model.{Stage, compared, ended, freeEnd, met, nextTurn, pivotStep, placed, reduced, settled, stage}
+use Rattle.elimination.specs.Model.{Stage, compared, ended, freeEnd, leftOf, met, nextTurn, pivotStep, placed, reduced, settled, stage}
 use Rattle.standing.proofs.Begun.{Before, begun, chosen, pivot-low, pivot-var}
 use Rattle.standing.proofs.Merges.{extent₄, left, merged₄, merges, most₄, place₄}
 use Rattle.standing.proofs.Trims.{taken₃, trims, weighed₃}
@@ -92,6 +94,11 @@ module _ {N n nd size : ℕ} {l s : List ℤ} {t : Turn} {x : Outcomes.Statistic
       let c = b .stands .gone in
       plus-sum (t .gone) (rd n NV (merges b aggressive left-few .mem) p) (omega (arith, a, c, gone-next, gone-low, b .many, b .few)) ∙ omega (arith, a, c)
 
+  -- a pivot is gone
+  left-all : leftOf n (st .gone + weight g₃ p) ≡ n - (st .gone + weight g₃ p)
+  unfolding leftOf
+  left-all = omega (arith, ltb-true 0 (weight g₃ p) (ready (plainKey n) aggressive st (b .inv) p d (chosen b) .heavy))
+
   -- ---- the memory
 
   abbrev L₄ : List ℤ
@@ -104,7 +111,7 @@ module _ {N n nd size : ℕ} {l s : List ℤ} {t : Turn} {x : Outcomes.Statistic
   spot₅ = placedAll n rest (n - (st .gone + weight g₃ p)) L₄ (rd n PE S₄ p) (rd n LEN S₄ p) (spot S₄ d)
 
   abbrev pub kept₅ : Cut
-  kept₅ = keptPart n WANT (spot₅ .mem) (rd n PE S₄ p) (rd n LEN S₄ p) L₄
+  kept₅ = keptPart n NV S₄ (rd n PE S₄ p) (rd n LEN S₄ p) L₄
 
   abbrev pub done₅ : List ℤ
   done₅ = finished n (spot₅ .mem) p rest (kept₅ .count)
@@ -125,10 +132,10 @@ module _ {N n nd size : ℕ} {l s : List ℤ} {t : Turn} {x : Outcomes.Statistic
       }
 
   -- the same by the code's own words
-  abbrev F : ℕ → ℕ → ℕ → ℕ → Stage
-  F a γ from k =
-      let o = placedAll n a (n - γ) L₄ from k (spot S₄ d) in
-      let c = keptPart n WANT (o .mem) from k L₄ in
+  abbrev F : ℕ → ℕ → ℕ → ℕ → ℕ → Stage
+  F a γ e from k =
+      let o = placedAll n a e L₄ from k (spot S₄ d) in
+      let c = keptPart n NV S₄ from k L₄ in
       stage (c .lists) (finished n (o .mem) p a (c .count))
       (record {
         gone = γ;
@@ -142,14 +149,15 @@ module _ {N n nd size : ℕ} {l s : List ℤ} {t : Turn} {x : Outcomes.Statistic
         collections = plus (t .collections) (begun b .made .collected);
       })
 
-  unfolded : pivotStep n p d aggressive t l s ≡ F (left b aggressive) (plus (t .gone) (rd n NV S₄ p)) (begun b .made .start) (begun b .made .count)
+  unfolded : pivotStep n p d aggressive t l s ≡ F (left b aggressive) (plus (t .gone) (rd n NV S₄ p)) (leftOf n (plus (t .gone) (rd n NV S₄ p))) (begun b .made .start) (begun b .made .count)
   unfolding pivotStep met compared reduced ended settled placed nextTurn
   unfolded = refl
 
   pub stage-next : pivotStep n p d aggressive t l s ≡ stage (kept₅ .lists) done₅ turn₅
   stage-next =
       unfolded
-      ∙ ap (λ (a : ℕ). F a (plus (t .gone) (rd n NV S₄ p)) (begun b .made .start) (begun b .made .count)) left-is
-      ∙ ap (λ (γ : ℕ). F rest γ (begun b .made .start) (begun b .made .count)) gone-is
-      ∙ ap (λ (a : ℕ). F rest (st .gone + weight g₃ p) a (begun b .made .count)) (sym (place₄ b aggressive left-few))
-      ∙ ap (λ (k : ℕ). F rest (st .gone + weight g₃ p) (rd n PE S₄ p) k) (sym (extent₄ b aggressive left-few))
+      ∙ ap (λ (a : ℕ). F a (plus (t .gone) (rd n NV S₄ p)) (leftOf n (plus (t .gone) (rd n NV S₄ p))) (begun b .made .start) (begun b .made .count)) left-is
+      ∙ ap (λ (γ : ℕ). F rest γ (leftOf n γ) (begun b .made .start) (begun b .made .count)) gone-is
+      ∙ ap (λ (e : ℕ). F rest (st .gone + weight g₃ p) e (begun b .made .start) (begun b .made .count)) left-all
+      ∙ ap (λ (a : ℕ). F rest (st .gone + weight g₃ p) (n - (st .gone + weight g₃ p)) a (begun b .made .count)) (sym (place₄ b aggressive left-few))
+      ∙ ap (λ (k : ℕ). F rest (st .gone + weight g₃ p) (n - (st .gone + weight g₃ p)) (rd n PE S₄ p) k) (sym (extent₄ b aggressive left-few))

@@ -1,4 +1,4 @@
-use Rattle.chain.proofs.Steps.{enlist-yes, enlist-long, enlist-none}
+use Rattle.chain.proofs.Steps.{enlist-yes, enlist-past, enlist-long, enlist-none}
 use borrow.Author.Needs.{needs}
 use Rattle.chain.proofs.enlist.Statement.{statement}
 use Rattle.chain.proofs.enlist.Tie as tie
@@ -23,13 +23,19 @@ same-length-2 : tie.Need-same-length-2
 same-length-2 c = search needs
 
 returns-2 : tie.Need-returns-2
-returns-2 c = search (needs, enlist-long)
+returns-2 c = search (needs, enlist-past)
 
 same-length-3 : tie.Need-same-length-3
 same-length-3 c = search needs
 
 returns-3 : tie.Need-returns-3
-returns-3 c = search (needs, enlist-none)
+returns-3 c = search (needs, enlist-long)
+
+same-length-4 : tie.Need-same-length-4
+same-length-4 c = search needs
+
+returns-4 : tie.Need-returns-4
+returns-4 c = search (needs, enlist-none)
 
 pub enlist-spec : {M : Type 1} → statement M
 enlist-spec =
@@ -42,4 +48,6 @@ enlist-spec =
     same-length-2
     returns-2
     same-length-3
-    returns-3)
+    returns-3
+    same-length-4
+    returns-4)

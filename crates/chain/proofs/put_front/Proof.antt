@@ -4,13 +4,13 @@ use Rattle.chain.proofs.put_front.Statement.{statement}
 use Rattle.chain.proofs.put_front.Tie as tie
 use Rattle.chain.proofs.put_front.Reads as reads
 use Rattle.chain.proofs.put_front.Lts as lts
-use Rattle.cells.proofs.put.Reads as put-reads
-use Rattle.cells.proofs.tab.Reads as tab-reads
+use Rattle.cells.proofs.note.Reads as note-reads
+use Rattle.cells.proofs.look.Reads as look-reads
 use Rattle.cells.proofs.set.Reads as set-reads
 use Rattle.chain.proofs.link_before.Reads as link-before-reads
 
-tab-requires : tie.Need-tab-requires
-tab-requires c κs = search needs
+look-requires : tie.Need-look-requires
+look-requires c κs = search needs
 
 link-before-requires : tie.Need-link-before-requires
 link-before-requires c κs = search needs
@@ -18,8 +18,8 @@ link-before-requires c κs = search needs
 set-requires : tie.Need-set-requires
 set-requires c κs = search needs
 
-put-requires : tie.Need-put-requires
-put-requires c κs = search needs
+note-requires : tie.Need-note-requires
+note-requires c κs = search needs
 
 same-length : tie.Need-same-length
 same-length c = search needs
@@ -30,4 +30,4 @@ returns c = search (needs, push-step)
 pub put-front-spec : {M : Type 1} → statement M
 put-front-spec =
     tie.close
-    (tie.spec tab-requires link-before-requires set-requires put-requires same-length returns)
+    (tie.spec look-requires link-before-requires set-requires note-requires same-length returns)

@@ -4,14 +4,14 @@ use Rattle.elimination.proofs.settle.Statement.{statement}
 use Rattle.elimination.proofs.settle.Tie as tie
 use Rattle.elimination.proofs.settle.Reads as reads
 use Rattle.elimination.proofs.settle.Lts as lts
-use Rattle.cells.proofs.less.Reads as less-reads
 use Rattle.cells.proofs.plus.Reads as plus-reads
+use Rattle.elimination.proofs.count_left.Reads as count-left-reads
 use Rattle.elimination.proofs.free_end.Reads as free-end-reads
 use Rattle.elimination.proofs.next_turn.Reads as next-turn-reads
 use Rattle.elimination.proofs.place.Reads as place-reads
 
-less-requires : tie.Need-less-requires
-less-requires c κs = search needs
+count-left-requires : tie.Need-count-left-requires
+count-left-requires c κs = search needs
 
 place-requires : tie.Need-place-requires
 place-requires c κs = search needs
@@ -38,7 +38,7 @@ pub settle-spec : {M : Type 1} → statement M
 settle-spec =
     tie.close
     (tie.spec
-    less-requires
+    count-left-requires
     place-requires
     free-end-requires
     plus-requires
