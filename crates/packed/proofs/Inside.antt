@@ -47,7 +47,7 @@ pub record Replaced (n : ℕ) (X : ℕ → List ℕ) (l s : List ℤ) (cnt base 
   pub lengths : (i : ℕ) → i ≢ me → rd n LEN (m .mem) i ≡ rd n LEN s i
   pub parents : (i : ℕ) → parent n (m .mem) i ≡ parent n s i
 
-module _ (n : ℕ) (X : ℕ → List ℕ) (l s : List ℤ) (cnt base lim : ℕ) (g : Space n X l s cnt base lim) (small : n < 2 ^ 63) (narrow : length l < 2 ^ 63) (me : ℕ) (hm : me < n) where
+module _ (n : ℕ) (X : ℕ → List ℕ) (l s : List ℤ) (cnt base lim : ℕ) (g : Space n X l s cnt base lim) (narrow : length l < 2 ^ 63) (me : ℕ) (hm : me < n) where
   abbrev k : ℕ
   k = rd n LEN s me
 
