@@ -4,11 +4,11 @@ use Prim.Native.Nat.{ℕ, suc, _+_, _<_, _^_, _≤_}
 use native.Mathlib.Omega.{arith}
 use mathlib.Core.Path.{_≡_, refl, sym, ap, subst, _∙_}
 use mathlib.Core.Logic.{_≢_, _⊎_, inl, inr}
-use mathlib.Core.Bool.{Bool, true, false, cond, not, _&&_, false≢true}
-use mathlib.Core.List.{List, [], _∷_, _++_, foldl}
-use mathlib.Core.Option.{Option, none, some}
+use mathlib.Core.Bool.{Bool, false, cond, not, _&&_, false≢true}
+use mathlib.Core.List.{List, [], _∷_, foldl}
+use mathlib.Core.Option.{none, some}
 use borrow.Author.Tests.{le-ltb, lt-ltb}
-use lib.Dec.{eqb, ltb}
+use lib.Dec.{eqb}
 use lib.IntN.{ℤ}
 use lib.ListN.{length, length-map}
 use Rattle.plain.proofs.Entries.{entries-same, upd-other, upd-same}
@@ -17,18 +17,18 @@ use Rattle.plain.proofs.Members.{apart, member-nil}
 use Rattle.plain.proofs.Repeats.{length-below}
 use Rattle.plain.specs.Lists.{member}
 use Rattle.plain.specs.Members.{Distinct, In}
-use Rattle.plain.specs.Turns.{entries, firsts, upd}
+use Rattle.plain.specs.Turns.{entries, upd}
 use Rattle.definition.specs.Pivot.{collected, passed}
 use Rattle.definition.specs.Room as definition
 use Rattle.definition.specs.State.{Graph, State, elementsOf, isVariable, kind, variablesOf, weight}
 use Rattle.facts.proofs.Weighed.{Weighed}
-use Rattle.facts.specs.Invariant.{Inv, Quotient, Var}
+use Rattle.facts.specs.Invariant.{Inv, Var}
 use Rattle.cells.proofs.Fields.{room-up}
 use Rattle.cells.proofs.Laws.{mem, room-yes}
 use Rattle.cells.proofs.Slices.{same?, split}
 use Rattle.cells.specs.Layout.{PE, LEN, WANT, ELEN, DEGREE, W, NEXT, LAST, HEAD, HNEXT, TMP, ORD}
 use Rattle.cells.specs.Links.{parent}
-use Rattle.cells.specs.View.{Room, at, rd, up}
+use Rattle.cells.specs.View.{at, rd, up}
 use Rattle.chain.proofs.Alike.{Alike, alike-then, fold-alike}
 use Rattle.chain.specs.Model.{removed}
 use Rattle.packed.proofs.Agreement.{Agrees, Shows, gathered-definition, inside-collected}

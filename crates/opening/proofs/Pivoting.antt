@@ -1,31 +1,31 @@
 -- A pivot's beginning: from what the memory holds between two pivots to what it holds within a pivot's step, once its element is gathered.
 -- Assumes nothing.
-use Prim.Native.Nat.{ℕ, suc, _+_, _<_, _^_, _≤_}
+use Prim.Native.Nat.{ℕ, _+_, _<_, _^_, _≤_}
 use native.Mathlib.Omega.{arith}
-use mathlib.Core.Path.{_≡_, refl, sym, ap, subst, _∙_}
+use mathlib.Core.Path.{_≡_, refl, sym, ap, _∙_}
 use mathlib.Core.Logic.{_≢_, _⊎_, inl, inr}
 use mathlib.Core.Bool.{Bool, true, false, cond, not, _&&_, _||_, false≢true}
-use mathlib.Core.List.{List, [], _∷_, _++_}
+use mathlib.Core.List.{List, [], _∷_}
 use mathlib.Core.Option.{Option, none, some}
 use borrow.Author.Tests.{eq-eqb, lt-ltb, ne-eqb}
-use lib.Dec.{eqb, ltb}
+use lib.Dec.{eqb}
 use lib.IntN.{ℤ}
-use lib.ListN.{length, getD, drop}
+use lib.ListN.{length, getD}
 use Rattle.plain.proofs.Entries.{entries-same, upd-same, upd-other}
-use Rattle.plain.proofs.Logic.{clash, either}
+use Rattle.plain.proofs.Logic.{either}
 use Rattle.plain.proofs.Positions.{member-getD}
 use Rattle.plain.specs.Lists.{isNone, member}
-use Rattle.plain.specs.Members.{Distinct, In}
+use Rattle.plain.specs.Members.{In}
 use Rattle.plain.specs.Turns.{entries, upd}
 use Rattle.definition.specs.Pivot.{collected, delist, delisted, found, passed, pivot}
 use Rattle.definition.specs.Room as definition
-use Rattle.definition.specs.State.{Graph, Kind, State, degree, elementsOf, isElement, isMerged, isVariable, kind, live, queueOf, variablesOf, weight}
+use Rattle.definition.specs.State.{Graph, Kind, State, elementsOf, isElement, isMerged, isVariable, kind, live, queueOf, weight}
 use Rattle.definition.specs.State as state
 use Rattle.facts.proofs.Collected.{collected-var, distinct-collected, pivot-outside}
 use Rattle.facts.proofs.Invariant.{var-elsewhere, var-inside}
 use Rattle.facts.proofs.Pivots.{pivoted}
 use Rattle.facts.proofs.Weighed.{Weighed}
-use Rattle.facts.specs.Invariant.{Inv, Quotient, Var}
+use Rattle.facts.specs.Invariant.{Inv, Var}
 use Rattle.cells.proofs.Fields.{room-up}
 use Rattle.cells.proofs.Laws.{mem, room-yes}
 use Rattle.cells.proofs.Slices.{same?}
@@ -38,11 +38,11 @@ use Rattle.chain.proofs.Leave.{collected-left, pivot-left}
 use Rattle.chain.proofs.Unlink.{removed-other, removed-parent, removed-room}
 use Rattle.chain.specs.Chained.{Chained}
 use Rattle.chain.specs.Model.{removed}
-use Rattle.packed.proofs.Frame.{inside-space, len-of}
+use Rattle.packed.proofs.Frame.{len-of}
 use Rattle.packed.proofs.Spaces.{space-same}
 use Rattle.packed.specs.Gather.{Outside}
-use Rattle.packed.specs.Places.{Owns, Space, places}
-use Rattle.drawn.specs.Drawn.{Drawn, Rest, Within, listOf}
+use Rattle.packed.specs.Places.{Space, places}
+use Rattle.drawn.specs.Drawn.{Rest, Within, listOf}
 use Rattle.drawn.specs.Flags.{Flagged}
 use Rattle.drawn.specs.Log.{Logged}
 use Rattle.opening.specs.Begin as begin

@@ -3,7 +3,7 @@
 // its elements are taken up by it. A contract is the function's own model, and the laws of `proofs/` say what it does.
 ghost use mathlib.Core.Path.{_≡_};
 ghost use Prim.Native.Nat.{_+_, _<_, _^_};
-ghost use Rattle.cells.specs.View.{Room, at, rd, up};
+ghost use Rattle.cells.specs.View.{Room, at, up};
 ghost use Rattle.cells.specs.Rows.{Rows};
 ghost use Rattle.cells.specs.Layout.{HNEXT, WANT};
 ghost use Rattle.chain.specs.Model.{removed};

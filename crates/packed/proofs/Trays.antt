@@ -15,7 +15,7 @@ use Rattle.packed.specs.Tray.{Taking, counted, emptyTray, ownPart, passe
 use Rattle.packed.specs.declared.Part.{Part}
 use Rattle.packed.specs.declared.Tray.{Tray}
 
--- a sum below the largest word is none of a word
+-- a small sum is itself as a word
 pub wrapped-sum : (a b : ℕ) → a + b < 2 ^ 63 → wrapped a b ≡ a + b
 unfolding wrapped
 wrapped-sum a b h = mod-eq-of-lt {m = 2 ^ 64} (omega arith)

@@ -1,11 +1,10 @@
-// Lists packed into one lent space, their collection to the space's beginning, and the list of a new element gathered from others.
-// Nothing here asks for a memory that makes sense, but for rows in the list space: a contract is the function's own model, and the laws of `proofs/` say what it does to the lists.
+// Lists packed into one lent space, their collection to the space's beginning, and the list of a new element gathered from others, whose rows leave their degree lists.
+// Nothing here asks for a memory that makes sense, but for rows in the list space and in the scratch table: a contract is the function's own model, and the laws of `proofs/` say what it does to the lists.
 ghost use mathlib.Core.Path.{_≡_};
 ghost use Prim.Native.Nat.{_+_, _<_, _≤_, _^_};
 ghost use lib.ListN.{length};
-ghost use Rattle.cells.specs.View.{Room, at, rd};
+ghost use Rattle.cells.specs.View.{Room, at};
 ghost use Rattle.cells.specs.Rows.{Rows};
-ghost use Rattle.cells.specs.Layout.{TMP};
 ghost use Rattle.packed.specs.Places.{places, due};
 ghost use Rattle.packed.specs.Model.{copied, heap, movedOne, movedLow, movedNext, movedNew, packedLow, packedAll, laid, entered};
 ghost use Rattle.packed.specs.Tray.{Tabled, taking, counted, tookRow, took, tookPart, tookElement, tookElements, ownPart, tookAll};
