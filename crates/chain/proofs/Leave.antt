@@ -1,36 +1,30 @@
--- Rows that leave their lists one after the other: `taken-rep`, against the definition's `delisted`.
+-- Rows that leave their lists one after the other: `delisted-rep`, against the definition's `delisted`.
 -- Assumes nothing.
-use Prim.Native.Nat.{ℕ, _+_, _<_, _≤_}
+use Prim.Native.Nat.{ℕ, _<_}
 use native.Mathlib.Omega.{arith}
 use mathlib.Core.Path.{_≡_, refl, sym, ap, _∙_, subst}
 use mathlib.Core.Logic.{_≢_, _⊎_, inl, inr}
 use mathlib.Core.Bool.{false}
 use mathlib.Core.List.{List, [], _∷_, foldl}
-use lib.Dec.{eqb}
 use lib.IntN.{ℤ}
 use lib.ListN.{length}
 use lib.Seq.{getD-set-same, getD-set-other}
 use Rattle.plain.specs.Lists.{member, delete}
 use Rattle.plain.specs.Members.{In, Distinct}
-use Rattle.plain.specs.Turns.{entries}
 use Rattle.plain.proofs.Logic.{clash}
-use Rattle.plain.proofs.Turns.{times-fold}
 use Rattle.plain.proofs.Members.{member-here, member-there, member-delete, delete-fresh, apart, not-in, not-cons, member-nil}
 use Rattle.definition.specs.State.{Graph, State, degree, queueOf}
 use Rattle.definition.specs.Pivot.{delist, delisted}
 use Rattle.facts.specs.Invariant.{Var, Queued}
 use Rattle.facts.proofs.Sizes.{length-delisted}
 use Rattle.facts.proofs.Queues.{delisted-was, delisted-gone, delisted-stays}
-use Rattle.cells.specs.Layout.{DEGREE, NEXT, LAST, HEAD}
-use Rattle.cells.specs.View.{at, rd, Room}
-use Rattle.cells.specs.Links.{parent}
-use Rattle.cells.specs.Rows.{clipped}
+use Rattle.cells.specs.Layout.{DEGREE}
+use Rattle.cells.specs.View.{rd, Room}
 use Rattle.cells.proofs.Slices.{same?}
-use Rattle.cells.proofs.Rows.{clipped-part}
-use Rattle.chain.specs.Model.{removed, removedAll}
+use Rattle.chain.specs.Model.{removed}
 use Rattle.chain.specs.Chained.{Chained}
 use Rattle.chain.proofs.Frame.{chained-lists, only-degree}
-use Rattle.chain.proofs.Unlink.{removed-rep, removed-other, removed-degree, removed-parent, removed-room}
+use Rattle.chain.proofs.Unlink.{removed-rep, removed-degree, removed-room}
 
 pub size-delist : (g : Graph) (qs : List (List ℕ)) (v : ℕ) → length (delist g qs v) ≡ length qs
 unfolding delisted
@@ -93,28 +87,6 @@ delisted-fresh n g vs s qs h v m same e he =
     by w k (inl y) = k y
     by w k (inr y) = clash (member v (queueOf qs e)) w (only-degree h e v he (λ z. y (sym same ∙ z)))
 
--- the loop over the cells is a fold over the rows in those that are there
-removed-fold : (l : List ℤ) (n p k : ℕ) (s : List ℤ) → removedAll l n p k s ≡ foldl (λ m v. removed n m v) s (entries (at l) p (clipped (length l) p k))
-unfolding removedAll
-removed-fold l n p k s = times-fold (λ v m. removed n m v) (at l) p (clipped (length l) p k) s
-
-module _ (l : List ℤ) (n p k : ℕ) (fits : 0 < k → p + k ≤ length l) (s : List ℤ) where
-  removed-there : removedAll l n p k s ≡ foldl (λ m v. removed n m v) s (entries (at l) p k)
-  removed-there = removed-fold l n p k s ∙ ap (λ (j : ℕ). foldl (λ m v. removed n m v) s (entries (at l) p j)) (clipped-part (length l) p k fits)
-
-  -- the rows in the cells leave their lists
-  pub taken-rep : (g : Graph) (qs : List (List ℕ)) → Room n s → length qs ≡ n → Chained n s (queueOf qs) → Distinct (entries (at l) p k)
-      → ((v : ℕ) → In v (entries (at l) p k) → Stands n s g qs v) → Chained n (removedAll l n p k s) (queueOf (delisted g qs (entries (at l) p k)))
-  taken-rep g qs room size h d q = rw removed-there (delisted-rep n g (entries (at l) p k) s qs room size h d q)
-
-  -- the same of a state whose lists are as they should be, for rows that are variables
-  pub taken-queued : (t : State) → Room n s → Queued n t → Chained n s (queueOf (t .queues)) → Distinct (entries (at l) p k)
-      → ((v : ℕ) → In v (entries (at l) p k) → Var (t .graph) v × (rd n DEGREE s v ≡ degree (t .graph) v))
-      → Chained n (removedAll l n p k s) (queueOf (delisted (t .graph) (t .queues) (entries (at l) p k)))
-  taken-queued t room w h d q =
-      taken-rep (t .graph) (t .queues) room (w .size) h d
-      (λ v m. record { same = q v m .1; low = w .bounded v (q v m .0) .1; there = w .all v (q v m .0) })
-
 -- ---- a pivot's step: the pivot leaves, and after other stores the collected rows do
 
 pub delisted-cons : (g : Graph) (qs : List (List ℕ)) (p : ℕ) (vs : List ℕ) → delisted g (delist g qs p) vs ≡ delisted g qs (p ∷ vs)
@@ -136,38 +108,10 @@ module _ (n : ℕ) (t : State) (w : Queued n t) (p : ℕ) (pv : Var (t .graph) p
       delisted-stays g (p ∷ []) (t .queues) (degree g v) v (not-cons v p [] (λ e. ne (sym e)) (member-nil v))
       (omega (arith, w .size, w .bounded v var .1)) (w .all v var)
 
-  module _ (l : List ℤ) (from k : ℕ) (fits : 0 < k → from + k ≤ length l) (s : List ℤ) (room : Room n s) (h : Chained n s (queueOf (delist (t .graph) (t .queues) p)))
-      (d : Distinct (p ∷ entries (at l) from k))
-      (q : (v : ℕ) → In v (entries (at l) from k) → Var (t .graph) v × (rd n DEGREE s v ≡ degree (t .graph) v)) where
-    pub collected-left : Chained n (removedAll l n from k s) (queueOf (delisted (t .graph) (t .queues) (p ∷ entries (at l) from k)))
+  module _ (vs : List ℕ) (s : List ℤ) (room : Room n s) (h : Chained n s (queueOf (delist (t .graph) (t .queues) p))) (d : Distinct (p ∷ vs))
+      (q : (v : ℕ) → In v vs → Var (t .graph) v × (rd n DEGREE s v ≡ degree (t .graph) v)) where
+    pub collected-left : Chained n (foldl (λ m v. removed n m v) s vs) (queueOf (delisted (t .graph) (t .queues) (p ∷ vs)))
     collected-left =
-        subst (λ (qs : List (List ℕ)). Chained n (removedAll l n from k s) (queueOf qs)) (delisted-cons g (t .queues) p (entries (at l) from k))
-        (taken-rep l n from k fits s g (delist g (t .queues) p) room (size-delist g (t .queues) p ∙ w .size) h (d .1)
-        (λ v m. record { same = q v m .1; low = w .bounded v (q v m .0) .1; there = there-still v (q v m .0) (apart p v (entries (at l) from k) (d .0) m) }))
-
--- ---- what the memory keeps
-
-module _ (n : ℕ) where
-  fold-other : (f j : ℕ) → eqb HEAD f ≡ false → eqb NEXT f ≡ false → eqb LAST f ≡ false → (vs : List ℕ) (s : List ℤ)
-      → rd n f (foldl (λ m v. removed n m v) s vs) j ≡ rd n f s j
-  fold-other f j a b c [] s = refl
-  fold-other f j a b c (v ∷ vs) s = fold-other f j a b c vs (removed n s v) ∙ removed-other n s v f j a b c
-
-  fold-parent : (j : ℕ) (vs : List ℕ) (s : List ℤ) → parent n (foldl (λ m v. removed n m v) s vs) j ≡ parent n s j
-  fold-parent j [] s = refl
-  fold-parent j (v ∷ vs) s = fold-parent j vs (removed n s v) ∙ removed-parent n s v j
-
-  fold-room : (vs : List ℕ) (s : List ℤ) → Room n s → Room n (foldl (λ m v. removed n m v) s vs)
-  fold-room [] s h = h
-  fold-room (v ∷ vs) s h = fold-room vs (removed n s v) (removed-room n s v h)
-
-module _ (l : List ℤ) (n p k : ℕ) (s : List ℤ) where
-  -- every field but these three
-  pub taken-other : (f j : ℕ) → eqb HEAD f ≡ false → eqb NEXT f ≡ false → eqb LAST f ≡ false → rd n f (removedAll l n p k s) j ≡ rd n f s j
-  taken-other f j a b c = rw (removed-fold l n p k s) (fold-other n f j a b c (entries (at l) p (clipped (length l) p k)) s)
-
-  pub taken-parent : (j : ℕ) → parent n (removedAll l n p k s) j ≡ parent n s j
-  taken-parent j = rw (removed-fold l n p k s) (fold-parent n j (entries (at l) p (clipped (length l) p k)) s)
-
-  pub taken-room : Room n s → Room n (removedAll l n p k s)
-  taken-room h = rw (removed-fold l n p k s) (fold-room n (entries (at l) p (clipped (length l) p k)) s h)
+        subst (λ (qs : List (List ℕ)). Chained n (foldl (λ m v. removed n m v) s vs) (queueOf qs)) (delisted-cons g (t .queues) p vs)
+        (delisted-rep n g vs s (delist g (t .queues) p) room (size-delist g (t .queues) p ∙ w .size) h (d .1)
+        (λ v m. record { same = q v m .1; low = w .bounded v (q v m .0) .1; there = there-still v (q v m .0) (apart p v vs (d .0) m) }))

@@ -7,4 +7,5 @@ pub mod Unlink
 pub mod Fronts
 pub mod Search
 pub mod Leave
+pub mod Alike
 pub mod Opening

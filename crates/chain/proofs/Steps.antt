@@ -8,7 +8,7 @@ use lib.IntN.{ℤ}
 use Rattle.plain.specs.Turns.{times, Turned}
 use Rattle.plain.proofs.Turns.{finish}
 use Rattle.cells.specs.Layout.{LEN, DEGREE, NEXT, LAST, HEAD}
-use Rattle.cells.specs.View.{at, rd, up}
+use Rattle.cells.specs.View.{rd, up}
 use Rattle.chain.specs.Model.{relinked, removed, linkedBefore, pushed, emptied, enlistedOne, enlistedAll}
 
 module _ (n : ℕ) (s : List ℤ) (i b a : ℕ) where
@@ -64,6 +64,3 @@ pub rows-finish : (n limit : ℕ) (s t : List ℤ) → t ≡ emptied n s → (k 
     → x ≡ enlistedAll n limit s
 unfolding enlistedAll
 rows-finish n limit s t e k x h a b = finish (enlistedOne n limit) t k x h n a b ∙ ap (times n (enlistedOne n limit)) e
-
-pub take-step : (l : List ℤ) (n q : ℕ) (s : List ℤ) (i : ℕ) (r : List ℤ) → i ≡ at l q → r ≡ removed n s i → r ≡ removed n s (at l q)
-take-step l n q s i r hi hr = rw (← hi) hr

@@ -1,15 +1,13 @@
 -- What each function does to the memory, step by step: the code's own steps, as functions. The laws of `proofs/` say what these mean for the lists.
 -- Assumes nothing.
-use Prim.Native.Nat.{ℕ, _+_}
+use Prim.Native.Nat.{ℕ}
 use mathlib.Core.Bool.{cond}
 use mathlib.Core.List.{List}
 use lib.Dec.{ltb, leb}
 use lib.IntN.{ℤ}
-use lib.ListN.{length}
 use Rattle.plain.specs.Turns.{times}
 use Rattle.cells.specs.Layout.{LEN, DEGREE, NEXT, LAST, HEAD}
-use Rattle.cells.specs.View.{at, rd, up}
-use Rattle.cells.specs.Rows.{clipped}
+use Rattle.cells.specs.View.{rd, up}
 
 -- ---- one row
 
@@ -28,12 +26,6 @@ linkedBefore n s h i = up n LAST (up n NEXT (up n LAST s h i) i h) i n
 -- row i goes to the front of list d
 unfoldable pub pushed : ℕ → List ℤ → ℕ → ℕ → List ℤ
 pushed n s d i = up n HEAD (up n DEGREE (linkedBefore n s (rd n HEAD s d) i) i d) d i
-
--- ---- many rows
-
--- the rows in the k cells of the list space from p on, those that are there, leave their lists, one after the other
-unfoldable pub removedAll : List ℤ → ℕ → ℕ → ℕ → List ℤ → List ℤ
-removedAll l n p k s = times (clipped (length l) p k) (λ t m. removed n m (at l (p + t))) s
 
 -- ---- the start
 

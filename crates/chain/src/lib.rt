@@ -1,11 +1,9 @@
 // The degree lists of the elimination: doubly linked, one for each degree, in the fields HEAD, NEXT, LAST and DEGREE of the scratch. The null link is n, where a
 // store does nothing. Nothing here asks for lists that make sense: a contract is the function's own model, and the laws of `proofs/` say what it does to the lists.
 ghost use mathlib.Core.Path.{_≡_};
-ghost use Prim.Native.Nat.{_+_, _<_, _^_};
-ghost use lib.ListN.{length};
-ghost use Rattle.cells.specs.View.{Room, at};
-ghost use Rattle.cells.specs.Rows.{Rows};
-ghost use Rattle.chain.specs.Model.{relinked, removed, linkedBefore, pushed, removedAll, emptied, enlistedOne, enlistedAll};
+ghost use Prim.Native.Nat.{_<_, _^_};
+ghost use Rattle.cells.specs.View.{Room};
+ghost use Rattle.chain.specs.Model.{relinked, removed, linkedBefore, pushed, emptied, enlistedOne, enlistedAll};
 ghost use Rattle.chain.specs.First.{First};
 
 // A row and the degree of the list that it is the front of; the row is n where there is none.
@@ -77,26 +75,6 @@ pub fn find_pivot(s: &[i64], n: usize, least: usize) -> Pivot
             };
         }
         d += 1;
-    }
-}
-
-// Takes the row in cell `q` of the list space out of its list.
-fn take_at(lists: &[i64], s: &mut [i64], n: usize, q: usize)
-    requires { ⌜ Room n (now s) × Rows n (now lists) × (q < length (now lists)) ⌝ }
-    ensures { λ _. ⌜ (now (s .exit) ≡ removed n (now (s .entry)) (at (now (lists .entry)) q)) × Room n (now (s .exit)) ⌝ }
-{
-    let i = cells::row(lists, n, q);
-    take_out(s, n, i);
-}
-
-// Takes the rows in the `k` cells of the list space from `from` on out of their lists, one after the other.
-pub fn take_all(lists: &[i64], s: &mut [i64], n: usize, from: usize, k: usize)
-    requires { ⌜ Room n (now s) × Rows n (now lists) ⌝ }
-    ensures { λ _. ⌜ (now (s .exit) ≡ removedAll (now (lists .entry)) n from k (now (s .entry))) × Room n (now (s .exit)) ⌝ }
-{
-    let there = cells::clip(lists.len(), from, k);
-    for t in 0..there {
-        take_at(lists, s, n, from + t);
     }
 }
 

@@ -4,11 +4,11 @@ use Prim.Native.Nat.{ℕ, suc, _+_, _<_, _^_, _≤_}
 use native.Mathlib.Omega.{arith}
 use mathlib.Core.Path.{_≡_, refl, sym, ap, subst, _∙_}
 use mathlib.Core.Logic.{_≢_, _⊎_, inl, inr}
-use mathlib.Core.Bool.{Bool, true, false, cond, not, _&&_, false≢true}
-use mathlib.Core.List.{List, [], _∷_, _++_}
-use mathlib.Core.Option.{Option, none, some}
+use mathlib.Core.Bool.{Bool, false, cond, not, _&&_, false≢true}
+use mathlib.Core.List.{List, [], _∷_, foldl}
+use mathlib.Core.Option.{none, some}
 use borrow.Author.Tests.{le-ltb, lt-ltb}
-use lib.Dec.{eqb, ltb}
+use lib.Dec.{eqb}
 use lib.IntN.{ℤ}
 use lib.ListN.{length, length-map}
 use Rattle.plain.proofs.Entries.{entries-same, upd-other, upd-same}
@@ -17,18 +17,20 @@ use Rattle.plain.proofs.Members.{apart, member-nil}
 use Rattle.plain.proofs.Repeats.{length-below}
 use Rattle.plain.specs.Lists.{member}
 use Rattle.plain.specs.Members.{Distinct, In}
-use Rattle.plain.specs.Turns.{entries, firsts, upd}
+use Rattle.plain.specs.Turns.{entries, upd}
 use Rattle.definition.specs.Pivot.{collected, passed}
 use Rattle.definition.specs.Room as definition
 use Rattle.definition.specs.State.{Graph, State, elementsOf, isVariable, kind, variablesOf, weight}
 use Rattle.facts.proofs.Weighed.{Weighed}
-use Rattle.facts.specs.Invariant.{Inv, Quotient, Var}
+use Rattle.facts.specs.Invariant.{Inv, Var}
 use Rattle.cells.proofs.Fields.{room-up}
 use Rattle.cells.proofs.Laws.{mem, room-yes}
 use Rattle.cells.proofs.Slices.{same?, split}
-use Rattle.cells.specs.Layout.{PE, LEN, WANT, ELEN, W, HNEXT, TMP, ORD}
+use Rattle.cells.specs.Layout.{PE, LEN, WANT, ELEN, DEGREE, W, NEXT, LAST, HEAD, HNEXT, TMP, ORD}
 use Rattle.cells.specs.Links.{parent}
-use Rattle.cells.specs.View.{Room, at, rd, up}
+use Rattle.cells.specs.View.{at, rd, up}
+use Rattle.chain.proofs.Alike.{Alike, alike-then, fold-alike}
+use Rattle.chain.specs.Model.{removed}
 use Rattle.packed.proofs.Agreement.{Agrees, Shows, gathered-definition, inside-collected}
 use Rattle.packed.proofs.Dropping.{except}
 use Rattle.packed.proofs.Frame.{len-of}
@@ -55,8 +57,10 @@ pub record Collects (n : ℕ) (g : Graph) (p : ℕ) (l s : List ℤ) (x : Outsid
   pub long : length (x .lists) ≡ length l
   pub want : (i : ℕ) → rd n WANT (x .mem) i ≡ except (rd n WANT s) (collected g p) 0 i
   pub w : (i : ℕ) → rd n W (x .mem) i ≡ except (rd n W s) (elementsOf g p) 0 i
+  -- the collected rows left their degree lists
+  pub queues : Alike n (foldl (λ a v. removed n a v) s (collected g p)) (x .mem)
   pub fields : (f i : ℕ) → eqb PE f ≡ false → eqb LEN f ≡ false → eqb WANT f ≡ false → eqb TMP f ≡ false → eqb ORD f ≡ false → eqb W f ≡ false → eqb HNEXT f ≡ false
-      → rd n f (x .mem) i ≡ rd n f s i
+      → eqb HEAD f ≡ false → eqb NEXT f ≡ false → eqb LAST f ≡ false → rd n f (x .mem) i ≡ rd n f s i
   pub own : parent n (x .mem) p ≡ none
   pub taken : (i : ℕ) → In i (elementsOf g p) → parent n (x .mem) i ≡ some p
   pub others : (i : ℕ) → i ≢ p → member i (elementsOf g p) ≡ false → rd n LEN (x .mem) i ≡ 0 → parent n (x .mem) i ≡ parent n s i
@@ -110,13 +114,13 @@ module _ (n : ℕ) (l s : List ℤ) (t : State) (inv : Inv n t) (wd : Weighed t)
     shown = shows n t inv p pv wd s want
 
     r : Replaced n X l s made base lim p new o
-    r = subst (λ (x : List ℕ). Replaced n X l s made base lim p x o) (inside-collected g p X (wants n s) shown bare) (gathered-inside n X l s made base lim space small narrow p hp)
+    r = subst (λ (x : List ℕ). Replaced n X l s made base lim p x o) (inside-collected g p X (wants n s) shown bare) (gathered-inside n X l s made base lim space narrow p hp)
 
     none-of : (i : ℕ) → member i es ≡ false
     none-of i = ap (member i) bare ∙ member-nil i
 
     place-by : (i : ℕ) → (i ≡ p) ⊎ (i ≢ p) → rd n PE (up n PE (o .mem) p (rd n PE s p)) i ≡ rd n PE (o .mem) i
-    place-by i (inl e) = rw e (let z : rd n PE (up n PE (o .mem) p (rd n PE s p)) p ≡ rd n PE s p = simp (mem, room-yes n (o .mem) (r .space .room), lt-ltb p n hp) in z ∙ sym (r .fields PE p refl refl refl))
+    place-by i (inl e) = rw e (let z : rd n PE (up n PE (o .mem) p (rd n PE s p)) p ≡ rd n PE s p = simp (mem, room-yes n (o .mem) (r .space .room), lt-ltb p n hp) in z ∙ sym (r .fields PE p refl refl refl refl refl refl))
     place-by i (inr d) = simp mem
 
     pub alone-collects : Collects n (t .graph) p l s (gatheredAlone n p base lim made l s)
@@ -133,8 +137,9 @@ module _ (n : ℕ) (l s : List ℤ) (t : State) (inv : Inv n t) (wd : Weighed t)
           count = r .count;
           long = r .long;
           want = λ i. let z : rd n WANT m i ≡ rd n WANT (o .mem) i = simp mem in z ∙ r .want i;
-          w = λ i. let z : rd n W m i ≡ rd n W (o .mem) i = simp mem in z ∙ r .fields W i refl refl refl ∙ sym (ap (λ (b : Bool). cond b 0 (rd n W s i)) (none-of i));
-          fields = λ f i a b c d e h k. let z : rd n f m i ≡ rd n f (o .mem) i = simp (mem, a) in z ∙ r .fields f i b c d;
+          w = λ i. let z : rd n W m i ≡ rd n W (o .mem) i = simp mem in z ∙ r .fields W i refl refl refl refl refl refl ∙ sym (ap (λ (b : Bool). cond b 0 (rd n W s i)) (none-of i));
+          queues = alike-then (r .queues) record { head = λ i. simp mem; next = λ i. simp mem; last = λ i. simp mem; degree = λ i. simp mem };
+          fields = λ f i a b c d e h k u v w. let z : rd n f m i ≡ rd n f (o .mem) i = simp (mem, a) in z ∙ r .fields f i b c d u v w;
           own = simp mem;
           taken = λ i h. absurd (false≢true (sym (none-of i) ∙ h));
           others = λ i d h z. let y : parent n m i ≡ parent n (o .mem) i = simp mem in y ∙ r .parents i;
@@ -152,7 +157,7 @@ module _ (n : ℕ) (l s : List ℤ) (t : State) (inv : Inv n t) (wd : Weighed t)
           turns = refl;
           low = refl;
           free = refl;
-          order = λ i. let z : rd n ORD (up n PE (o .mem) p (rd n PE s p)) i ≡ rd n ORD (o .mem) i = simp mem in z ∙ r .fields ORD i refl refl refl;
+          order = λ i. let z : rd n ORD (up n PE (o .mem) p (rd n PE s p)) i ≡ rd n ORD (o .mem) i = simp mem in z ∙ r .fields ORD i refl refl refl refl refl refl;
           collected = refl;
         }
 
@@ -194,12 +199,12 @@ module _ (n : ℕ) (l s : List ℤ) (t : State) (inv : Inv n t) (wd : Weighed t)
     gd = agrees .gathered
 
     first : entries (at l) (rd n PE s p) k ≡ es
-    first = first-part n small 0 s l lim X (space .lists) p es (variablesOf g p) (shows n t inv p pv wd s want .own) elen
+    first = first-part n 0 s (space .room) l lim X (space .lists) p es (variablesOf g p) (shows n t inv p pv wd s want .own) elen
 
     kept : entries (rd n HNEXT (x .mem)) 0 k ≡ es
     kept =
         entries-same (at l) (rd n HNEXT (x .mem)) (rd n PE s p) 0 k
-        (λ i h. gd .fields HNEXT (0 + i) refl refl refl refl refl ∙ ap (rd n HNEXT s′) (omega arith) ∙ sv .table i h) ∙ first
+        (λ i h. gd .fields HNEXT (0 + i) refl refl refl refl refl refl refl refl ∙ ap (rd n HNEXT s′) (omega arith) ∙ sv .table i h) ∙ first
 
     ab : Absorbs n p es (x .mem) (absorbedAll n p k (x .mem))
     ab = absorbs-all n p hp k (x .mem) es kept (gd .space .room) low
@@ -221,6 +226,25 @@ module _ (n : ℕ) (l s : List ℤ) (t : State) (inv : Inv n t) (wd : Weighed t)
     unfolding gatheredOutside settled entered
     own-parent = simp mem
 
+    -- neither the table of the elements nor their end is of the degree lists
+    alike′ : Alike n s s′
+    alike′ =
+        record {
+          head = λ i. sv .fields HEAD i refl;
+          next = λ i. sv .fields NEXT i refl;
+          last = λ i. sv .fields LAST i refl;
+          degree = λ i. sv .fields DEGREE i refl;
+        }
+
+    alike″ : Alike n (x .mem) (absorbedAll n p k (x .mem))
+    alike″ =
+        record {
+          head = λ i. ab .fields HEAD i refl refl;
+          next = λ i. ab .fields NEXT i refl refl;
+          last = λ i. ab .fields LAST i refl refl;
+          degree = λ i. ab .fields DEGREE i refl refl;
+        }
+
     pub with-collects : Collects n (t .graph) p l s (gatheredWith n p (rd n ELEN s p) base lim made l s)
     unfolding gatheredWith
     with-collects =
@@ -237,8 +261,9 @@ module _ (n : ℕ) (l s : List ℤ) (t : State) (inv : Inv n t) (wd : Weighed t)
           count = gd .count ∙ sym (length-map (agrees .entries) (λ (a : definition.Read). a .entry)) ∙ ap length e;
           long = gd .long;
           want = λ i. ab .fields WANT i refl refl ∙ gd .want i ∙ ap (λ (y : List ℕ). cond (member i y) 0 (rd n WANT s′ i)) e ∙ ap (λ (y : ℕ). cond (member i new) 0 y) (sv .fields WANT i refl);
-          w = λ i. ab .w i ∙ ap (λ (y : ℕ). cond (member i es) 0 y) (gd .fields W i refl refl refl refl refl ∙ sv .fields W i refl);
-          fields = λ f i a b c d o h j. ab .fields f i h a ∙ gd .fields f i a b c d o ∙ sv .fields f i j;
+          w = λ i. ab .w i ∙ ap (λ (y : ℕ). cond (member i es) 0 y) (gd .fields W i refl refl refl refl refl refl refl refl ∙ sv .fields W i refl);
+          queues = rw (← e) (alike-then (fold-alike n (entriesOf (agrees .entries)) s s′ (space .room) (sv .room) alike′) (alike-then (gd .queues) alike″));
+          fields = λ f i a b c d o h j u v w. ab .fields f i h a ∙ gd .fields f i a b c d o u v w ∙ sv .fields f i j;
           own = ab .others p (not-among n t inv p pv) ∙ own-parent;
           taken = λ i h. ab .taken i h;
           others = λ i d h z. ab .others i h ∙ gd .parents i d (sym (len-same i) ∙ z) ∙ sv .parents i;

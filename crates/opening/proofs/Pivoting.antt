@@ -1,47 +1,48 @@
 -- A pivot's beginning: from what the memory holds between two pivots to what it holds within a pivot's step, once its element is gathered.
 -- Assumes nothing.
-use Prim.Native.Nat.{ℕ, suc, _+_, _<_, _^_, _≤_}
+use Prim.Native.Nat.{ℕ, _+_, _<_, _^_, _≤_}
 use native.Mathlib.Omega.{arith}
-use mathlib.Core.Path.{_≡_, refl, sym, ap, subst, _∙_}
+use mathlib.Core.Path.{_≡_, refl, sym, ap, _∙_}
 use mathlib.Core.Logic.{_≢_, _⊎_, inl, inr}
 use mathlib.Core.Bool.{Bool, true, false, cond, not, _&&_, _||_, false≢true}
-use mathlib.Core.List.{List, [], _∷_, _++_}
+use mathlib.Core.List.{List, [], _∷_}
 use mathlib.Core.Option.{Option, none, some}
 use borrow.Author.Tests.{eq-eqb, lt-ltb, ne-eqb}
-use lib.Dec.{eqb, ltb}
+use lib.Dec.{eqb}
 use lib.IntN.{ℤ}
-use lib.ListN.{length, getD, drop}
+use lib.ListN.{length, getD}
 use Rattle.plain.proofs.Entries.{entries-same, upd-same, upd-other}
-use Rattle.plain.proofs.Logic.{clash, either}
+use Rattle.plain.proofs.Logic.{either}
 use Rattle.plain.proofs.Positions.{member-getD}
 use Rattle.plain.specs.Lists.{isNone, member}
-use Rattle.plain.specs.Members.{Distinct, In}
+use Rattle.plain.specs.Members.{In}
 use Rattle.plain.specs.Turns.{entries, upd}
 use Rattle.definition.specs.Pivot.{collected, delist, delisted, found, passed, pivot}
 use Rattle.definition.specs.Room as definition
-use Rattle.definition.specs.State.{Graph, Kind, State, degree, elementsOf, isElement, isMerged, isVariable, kind, live, queueOf, variablesOf, weight}
+use Rattle.definition.specs.State.{Graph, Kind, State, elementsOf, isElement, isMerged, isVariable, kind, live, queueOf, weight}
 use Rattle.definition.specs.State as state
 use Rattle.facts.proofs.Collected.{collected-var, distinct-collected, pivot-outside}
 use Rattle.facts.proofs.Invariant.{var-elsewhere, var-inside}
 use Rattle.facts.proofs.Pivots.{pivoted}
 use Rattle.facts.proofs.Weighed.{Weighed}
-use Rattle.facts.specs.Invariant.{Inv, Quotient, Var}
+use Rattle.facts.specs.Invariant.{Inv, Var}
 use Rattle.cells.proofs.Fields.{room-up}
 use Rattle.cells.proofs.Laws.{mem, room-yes}
 use Rattle.cells.proofs.Slices.{same?}
 use Rattle.cells.specs.Layout.{PE, LEN, WANT, ELEN, DEGREE, W, NEXT, LAST, HEAD, HHEAD, HNEXT, TMP, ORD, MERGES, NV}
 use Rattle.cells.specs.Links.{parent}
 use Rattle.cells.specs.View.{Room, at, rd, up}
-use Rattle.chain.proofs.Frame.{chained-same, chained-up}
-use Rattle.chain.proofs.Leave.{collected-left, pivot-left, taken-other, taken-parent, taken-room}
+use Rattle.chain.proofs.Alike.{chained-alike}
+use Rattle.chain.proofs.Frame.{chained-up}
+use Rattle.chain.proofs.Leave.{collected-left, pivot-left}
 use Rattle.chain.proofs.Unlink.{removed-other, removed-parent, removed-room}
 use Rattle.chain.specs.Chained.{Chained}
-use Rattle.chain.specs.Model.{removed, removedAll}
-use Rattle.packed.proofs.Frame.{inside-space, len-of}
+use Rattle.chain.specs.Model.{removed}
+use Rattle.packed.proofs.Frame.{len-of}
 use Rattle.packed.proofs.Spaces.{space-same}
 use Rattle.packed.specs.Gather.{Outside}
-use Rattle.packed.specs.Places.{Owns, Space, places}
-use Rattle.drawn.specs.Drawn.{Drawn, Rest, Within, listOf}
+use Rattle.packed.specs.Places.{Space, places}
+use Rattle.drawn.specs.Drawn.{Rest, Within, listOf}
 use Rattle.drawn.specs.Flags.{Flagged}
 use Rattle.drawn.specs.Log.{Logged}
 use Rattle.opening.specs.Begin as begin
@@ -106,34 +107,15 @@ module _ (n : ℕ) (l s : List ℤ) (t : State) (inv : Inv n t) (wd : Weighed t)
       collects n l s₂ t inv wd p pv made base lim small narrow space₂ want₂ (same₂ ELEN p refl refl refl refl ∙ dr .elens p pv) turns
       (λ i h e. fresh i h (sym (same₂ ORD i refl refl refl refl) ∙ e)) room rm at-lim
 
-  -- ---- the collected rows leave their lists
-
-  abbrev s₅ : List ℤ
-  s₅ = removedAll (x .lists) n (x .made .start) (x .made .count) (x .mem)
-
   -- the fields that neither a list nor a gather changes
-  same₅ : (f i : ℕ) → eqb HEAD f ≡ false → eqb NEXT f ≡ false → eqb LAST f ≡ false → eqb WANT f ≡ false → eqb PE f ≡ false → eqb LEN f ≡ false → eqb TMP f ≡ false
-      → eqb ORD f ≡ false → eqb W f ≡ false → eqb HNEXT f ≡ false → rd n f s₅ i ≡ rd n f s i
-  same₅ f i a b e w q u v o z y =
-      taken-other (x .lists) n (x .made .start) (x .made .count) (x .mem) f i a b e ∙ c .fields f i q u w v o z y ∙ same₂ f i a b e w
-
-  after : (f i : ℕ) → eqb HEAD f ≡ false → eqb NEXT f ≡ false → eqb LAST f ≡ false → rd n f s₅ i ≡ rd n f (x .mem) i
-  after f i a b e = taken-other (x .lists) n (x .made .start) (x .made .count) (x .mem) f i a b e
-
-  room₅ : Room n s₅
-  room₅ = taken-room (x .lists) n (x .made .start) (x .made .count) (x .mem) (c .space .room)
+  same₃ : (f i : ℕ) → eqb HEAD f ≡ false → eqb NEXT f ≡ false → eqb LAST f ≡ false → eqb WANT f ≡ false → eqb PE f ≡ false → eqb LEN f ≡ false → eqb TMP f ≡ false
+      → eqb ORD f ≡ false → eqb W f ≡ false → eqb HNEXT f ≡ false → rd n f (x .mem) i ≡ rd n f s i
+  same₃ f i a b e w q u v o z y = c .fields f i q u w v o z y a b e ∙ same₂ f i a b e w
 
   new-there : entries (at (x .lists)) (x .made .start) (x .made .count) ≡ new
   new-there =
       let e = len-of (x .lists) (places n (x .mem)) (x .made .free) (upd (listOf (passed g p)) p new) (c .space .lists) p ∙ ap length (upd-same (listOf (passed g p)) p new) in
       rw (← c .place, c .count, ← e) (c .space .lists .lists p ∙ upd-same (listOf (passed g p)) p new)
-
-  -- and all of it is there
-  new-inside : 0 < x .made .count → x .made .start + x .made .count ≤ length (x .lists)
-  new-inside z =
-      let e = len-of (x .lists) (places n (x .mem)) (x .made .free) (upd (listOf (passed g p)) p new) (c .space .lists) p ∙ ap length (upd-same (listOf (passed g p)) p new) in
-      let o = inside-space (x .lists) (places n (x .mem)) (x .made .free) (upd (listOf (passed g p)) p new) (c .space .lists) p (omega (arith, e, c .count)) in
-      omega (arith, o, e, c .count, c .place)
 
   below : (v : ℕ) → In v new → v < n
   below v m = var-inside (inv .graph) v (collected-var (inv .graph) p pv v m)
@@ -141,16 +123,12 @@ module _ (n : ℕ) (l s : List ℤ) (t : State) (inv : Inv n t) (wd : Weighed t)
   pub begun-queues : Chained n s (queueOf (t .queues)) → Chained n (begin.pivoted n p base lim made l s .mem) (queueOf (delisted (t .graph) (t .queues) (p ∷ collected (t .graph) p)))
   unfolding begin.pivoted
   begun-queues ch =
-      let e = new-there in
       let a = pivot-left n t (inv .queued) p pv s room₀ ch (dr .degrees p hp) in
       let b = chained-up n (removed n s p) (queueOf (delist g (t .queues) p)) a WANT p 0 refl refl refl refl in
-      let h = chained-same b (x .mem) (λ i. c .fields HEAD i refl refl refl refl refl refl refl) (λ i. c .fields NEXT i refl refl refl refl refl refl refl)
-      (λ i. c .fields LAST i refl refl refl refl refl refl refl) (λ i. c .fields DEGREE i refl refl refl refl refl refl refl) in
-      subst (λ (y : List ℕ). Chained n s₅ (queueOf (delisted g (t .queues) (p ∷ y)))) e
-      (collected-left n t (inv .queued) p pv (x .lists) (x .made .start) (x .made .count) new-inside (x .mem) (c .space .room) h
-      (rw e (pivot-outside g p, distinct-collected g p))
-      (λ v m. let k : In v new = rw e at m in
-      (collected-var (inv .graph) p pv v k, c .fields DEGREE v refl refl refl refl refl refl refl ∙ same₂ DEGREE v refl refl refl refl ∙ dr .degrees v (below v k))))
+      chained-alike
+      (collected-left n t (inv .queued) p pv new s₂ room₂ b (pivot-outside g p, distinct-collected g p)
+      (λ v m. (collected-var (inv .graph) p pv v m, same₂ DEGREE v refl refl refl refl ∙ dr .degrees v (below v m))))
+      (c .queues)
 
   -- ---- the graph within the step
 
@@ -162,19 +140,16 @@ module _ (n : ℕ) (l s : List ℤ) (t : State) (inv : Inv n t) (wd : Weighed t)
   want-now false e true w = refl
   want-now false e false w = refl
 
-  wants₅ : (v : ℕ) → v < n → rd n WANT s₅ v ≡ cond (isVariable (kind (passed g p) v) && not (member v (p ∷ new))) (weight (passed g p) v) 0
+  wants₃ : (v : ℕ) → v < n → rd n WANT (x .mem) v ≡ cond (isVariable (kind (passed g p) v) && not (member v (p ∷ new))) (weight (passed g p) v) 0
   unfolding member
-  wants₅ v h =
-      after WANT v refl refl refl ∙ c .want v ∙ ap (λ (y : ℕ). cond (member v new) 0 y) (want₂ v h)
+  wants₃ v h =
+      c .want v ∙ ap (λ (y : ℕ). cond (member v new) 0 y) (want₂ v h)
       ∙ want-now (isVariable (kind g v)) (eqb v p) (member v new) (weight g v)
       ∙ rw (kind-passed n t inv p pv v, weight-passed n t inv p pv v)
 
   none-of : (o : Option ℕ) → isNone o ≡ true → o ≡ none
   none-of none e = refl
   none-of (some y) e = absurd (false≢true e)
-
-  len₅ : (v : ℕ) → rd n LEN s₅ v ≡ 0 → rd n LEN (x .mem) v ≡ 0
-  len₅ v z = sym (after LEN v refl refl refl) ∙ z
 
   -- a row that the step does not touch has the list that it had
   len-was : (v : ℕ) → v < n → v ≢ p → member v es ≡ false → rd n LEN (x .mem) v ≡ 0 → rd n LEN s v ≡ 0
@@ -199,21 +174,19 @@ module _ (n : ℕ) (l s : List ℤ) (t : State) (inv : Inv n t) (wd : Weighed t)
   unfolding begin.pivoted
   begun-drawn =
       record {
-        space = space-same n (upd (listOf (passed g p)) p new) (x .lists) (x .mem) (x .made .made) (x .made .base) (x .made .free) (c .space) s₅ room₅
-            (λ i. after PE i refl refl refl) (λ i. after LEN i refl refl refl) (λ i. after ORD i refl refl refl);
-        weights = λ v h. same₅ NV v refl refl refl refl refl refl refl refl refl refl ∙ dr .weights v h ∙ sym (weight-passed n t inv p pv v);
-        wants = wants₅;
-        elens = λ v h. same₅ ELEN v refl refl refl refl refl refl refl refl refl refl ∙ dr .elens v (sym (ap isVariable (kind-passed n t inv p pv v)) ∙ h)
+        space = c .space;
+        weights = λ v h. same₃ NV v refl refl refl refl refl refl refl refl refl refl ∙ dr .weights v h ∙ sym (weight-passed n t inv p pv v);
+        wants = wants₃;
+        elens = λ v h. same₃ ELEN v refl refl refl refl refl refl refl refl refl refl ∙ dr .elens v (sym (ap isVariable (kind-passed n t inv p pv v)) ∙ h)
             ∙ sym (ap length (elements-passed n t inv p pv v));
-        degrees = λ v h. same₅ DEGREE v refl refl refl refl refl refl refl refl refl refl ∙ dr .degrees v h ∙ sym (degree-passed n t inv p pv v);
-        parents = λ v h z.
-            taken-parent (x .lists) n (x .made .start) (x .made .count) (x .mem) v ∙ parent-by v h (len₅ v z) (same? v p) (member v es) refl;
+        degrees = λ v h. same₃ DEGREE v refl refl refl refl refl refl refl refl refl refl ∙ dr .degrees v h ∙ sym (degree-passed n t inv p pv v);
+        parents = λ v h z. parent-by v h z (same? v p) (member v es) refl;
       }
 
   -- ---- the marks
 
-  w₅ : (v : ℕ) → rd n W s₅ v ≡ cond (member v es) 0 (rd n W s v)
-  w₅ v = after W v refl refl refl ∙ c .w v ∙ ap (λ (y : ℕ). cond (member v es) 0 y) (same₂ W v refl refl refl refl)
+  w₃ : (v : ℕ) → rd n W (x .mem) v ≡ cond (member v es) 0 (rd n W s v)
+  w₃ v = c .w v ∙ ap (λ (y : ℕ). cond (member v es) 0 y) (same₂ W v refl refl refl refl)
 
   live-by : (v : ℕ) → v < n → live (passed g p) v ≡ true → (member v es ≡ false) × (live g v ≡ true)
   live-by v h e = by (member v es) refl
@@ -226,14 +199,14 @@ module _ (n : ℕ) (l s : List ℤ) (t : State) (inv : Inv n t) (wd : Weighed t)
   unfolding begin.pivoted
   begun-flags flag f =
       record {
-        below = λ v h. let z = f .below v h in rw (w₅ v) (low (member v es) (rd n W s v) z);
+        below = λ v h. let z = f .below v h in rw (w₃ v) (low (member v es) (rd n W s v) z);
         variable = λ v h e.
             let a : Var g v = sym (ap isVariable (kind-passed n t inv p pv v)) ∙ e in
-            rw (w₅ v, var-elsewhere (inv .graph) p v pv a) (f .variable v h a);
+            rw (w₃ v, var-elsewhere (inv .graph) p v pv a) (f .variable v h a);
         element = λ v h e q r.
             let b = live-by v h q in
-            rw (w₅ v, b .0) (f .element v h (sym (ap isElement (kind-passed n t inv p pv v)) ∙ e) (b .1) (omega (arith, ap length (variables-passed n t inv p pv v))));
-        absorbed = λ v h e q. w₅ v ∙ gone v h (sym (ap isElement (kind-passed n t inv p pv v)) ∙ e) q (member v es) refl;
+            rw (w₃ v, b .0) (f .element v h (sym (ap isElement (kind-passed n t inv p pv v)) ∙ e) (b .1) (omega (arith, ap length (variables-passed n t inv p pv v))));
+        absorbed = λ v h e q. w₃ v ∙ gone v h (sym (ap isElement (kind-passed n t inv p pv v)) ∙ e) q (member v es) refl;
       }
     where
       low : (b : Bool) (w : ℕ) → w < flag → cond b 0 w < flag
@@ -263,7 +236,7 @@ module _ (n : ℕ) (l s : List ℤ) (t : State) (inv : Inv n t) (wd : Weighed t)
   unfolding begin.pivoted
   begun-log ms f =
       record {
-        log = entries-same (rd n MERGES s) (rd n MERGES s₅) 0 0 (length ms) (λ i h. same₅ MERGES (0 + i) refl refl refl refl refl refl refl refl refl refl) ∙ f .log;
+        log = entries-same (rd n MERGES s) (rd n MERGES (x .mem)) 0 0 (length ms) (λ i h. same₃ MERGES (0 + i) refl refl refl refl refl refl refl refl refl refl) ∙ f .log;
         once = f .once;
         inside = λ v m. let a = f .inside v m in (a .0, ap isMerged (kind-passed n t inv p pv v) ∙ a .1);
         all = λ v h e. f .all v h (sym (ap isMerged (kind-passed n t inv p pv v)) ∙ e);
@@ -276,23 +249,23 @@ module _ (n : ℕ) (l s : List ℤ) (t : State) (inv : Inv n t) (wd : Weighed t)
 
   pub begun-keys : (v : ℕ) → rd n HHEAD (begin.pivoted n p base lim made l s .mem) v ≡ rd n HHEAD s v
   unfolding begin.pivoted
-  begun-keys v = same₅ HHEAD v refl refl refl refl refl refl refl refl refl refl
+  begun-keys v = same₃ HHEAD v refl refl refl refl refl refl refl refl refl refl
 
   -- every field that neither a list nor a gather changes
   pub begun-fields : (f i : ℕ) → eqb HEAD f ≡ false → eqb NEXT f ≡ false → eqb LAST f ≡ false → eqb WANT f ≡ false → eqb PE f ≡ false → eqb LEN f ≡ false → eqb TMP f ≡ false
       → eqb ORD f ≡ false → eqb W f ≡ false → eqb HNEXT f ≡ false → rd n f (begin.pivoted n p base lim made l s .mem) i ≡ rd n f s i
   unfolding begin.pivoted
-  begun-fields = same₅
+  begun-fields = same₃
 
   -- the new element's cells
   pub begun-place : rd n PE (begin.pivoted n p base lim made l s .mem) p ≡ begin.pivoted n p base lim made l s .made .start
   unfolding begin.pivoted
-  begun-place = after PE p refl refl refl ∙ c .place
+  begun-place = c .place
 
   pub begun-count : rd n LEN (begin.pivoted n p base lim made l s .mem) p ≡ begin.pivoted n p base lim made l s .made .count
   unfolding begin.pivoted
   begun-count =
-      after LEN p refl refl refl ∙ len-of (x .lists) (places n (x .mem)) (x .made .free) (upd (listOf (passed g p)) p new) (c .space .lists) p
+      len-of (x .lists) (places n (x .mem)) (x .made .free) (upd (listOf (passed g p)) p new) (c .space .lists) p
       ∙ ap length (upd-same (listOf (passed g p)) p new) ∙ sym (c .count)
 
   pub begun-list : entries (at (begin.pivoted n p base lim made l s .lists)) (begin.pivoted n p base lim made l s .made .start) (begin.pivoted n p base lim made l s .made .count)
@@ -306,12 +279,6 @@ module _ (n : ℕ) (l s : List ℤ) (t : State) (inv : Inv n t) (wd : Weighed t)
 
   -- ---- the room and the order
 
-  moved-owns : (i o : ℕ) → Owns (places n s₅) i o → Owns (places n (x .mem)) i o
-  moved-owns i o h =
-      let y = after PE i refl refl refl in
-      let z = after LEN i refl refl refl in
-      record { from = omega (arith, y, h .from); to = omega (arith, y, z, h .to) }
-
   -- of a pivot with elements
   pub begun-last : 0 < length (elementsOf (t .graph) p) → Last n (t .graph) p l s made rm (begin.pivoted n p base lim made l s)
   unfolding begin.pivoted
@@ -320,11 +287,11 @@ module _ (n : ℕ) (l s : List ℤ) (t : State) (inv : Inv n t) (wd : Weighed t)
       (λ i k e. fresh i k (sym (same₂ ORD i refl refl refl refl) ∙ e)) room rm at-lim h in
       record {
         turns = a .turns;
-        behind = λ i o e q. a .behind i o e (moved-owns i o q);
+        behind = a .behind;
         wide = a .wide;
         free = a .free;
-        order = λ i e. after ORD i refl refl refl ∙ a .order i e ∙ same₂ ORD i refl refl refl refl;
-        last = after ORD made refl refl refl ∙ a .last;
+        order = λ i e. a .order i e ∙ same₂ ORD i refl refl refl refl;
+        last = a .last;
         stored = a .stored;
         shrinks = a .shrinks;
       }
@@ -340,6 +307,6 @@ module _ (n : ℕ) (l s : List ℤ) (t : State) (inv : Inv n t) (wd : Weighed t)
         turns = a .turns;
         low = a .low;
         free = a .free;
-        order = λ i. after ORD i refl refl refl ∙ a .order i ∙ same₂ ORD i refl refl refl refl;
+        order = λ i. a .order i ∙ same₂ ORD i refl refl refl refl;
         collected = a .collected;
       }

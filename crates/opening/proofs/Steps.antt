@@ -8,7 +8,7 @@ use lib.IntN.{ℤ}
 use Rattle.cells.specs.Layout.{PE, LEN, WANT, ELEN, DEGREE, W, HHEAD, HNEXT, NV}
 use Rattle.cells.specs.View.{at, plus, rd, up}
 use Rattle.cells.specs.Links.{hang, named}
-use Rattle.chain.specs.Model.{enlistedAll, removed, removedAll}
+use Rattle.chain.specs.Model.{enlistedAll, removed}
 use Rattle.packed.specs.Gather.{Inside, Outside, inside, outside, gatheredInside, gatheredOutside}
 use Rattle.packed.specs.declared.Made.{Made}
 use Rattle.opening.specs.Start.{weighed, marked, begun, begunAll, rooted, leftOut, Setting, setting, setDense, setRoot, setOne, setAll, opened}
@@ -93,7 +93,6 @@ module _ (n me base lim made : ℕ) (l s : List ℤ) where
     unfolding gathered
     none-step hx b = rw (← hk, le-ltb 0 k b) hx
 
-  pub pivot-step : (s₂ l₃ s₃ s₄ : List ℤ) (r : Made) → s₂ ≡ up n WANT (removed n s me) me 0 → outside l₃ s₃ r ≡ gathered n me base lim made l s₂
-      → s₄ ≡ removedAll l₃ n (r .start) (r .count) s₃ → outside l₃ s₄ r ≡ pivoted n me base lim made l s
+  pub pivot-step : (s₂ : List ℤ) (x : Outside) → s₂ ≡ up n WANT (removed n s me) me 0 → x ≡ gathered n me base lim made l s₂ → x ≡ pivoted n me base lim made l s
   unfolding pivoted
-  pivot-step s₂ l₃ s₃ s₄ r h₂ h₃ h₄ = rw (← h₂, ← h₃, h₄)
+  pivot-step s₂ x h₂ h₃ = rw (← h₂) h₃

@@ -1,4 +1,4 @@
--- A pivot's beginning as the code does it: it leaves its list, gathers its new element, takes up its elements, and the collected rows leave their lists.
+-- A pivot's beginning as the code does it: it leaves its list, gathers its new element, whose rows leave their lists, and takes up its elements.
 -- Assumes nothing.
 use Prim.Native.Nat.{ℕ, _+_}
 use mathlib.Core.Bool.{cond}
@@ -9,7 +9,7 @@ use Rattle.plain.specs.Turns.{times}
 use Rattle.cells.specs.Layout.{PE, WANT, ELEN, W, HNEXT}
 use Rattle.cells.specs.View.{at, rd, up}
 use Rattle.cells.specs.Links.{hang, named}
-use Rattle.chain.specs.Model.{removed, removedAll}
+use Rattle.chain.specs.Model.{removed}
 use Rattle.packed.specs.Gather.{Outside, outside, gatheredOutside, Inside, gatheredInside}
 
 -- the k numbers from p on, kept in a table
@@ -44,6 +44,4 @@ gathered n me base lim made l s =
 
 -- the whole
 unfoldable pub pivoted : ℕ → ℕ → ℕ → ℕ → ℕ → List ℤ → List ℤ → Outside
-pivoted n me base lim made l s =
-    let o = gathered n me base lim made l (up n WANT (removed n s me) me 0) in
-    outside (o .lists) (removedAll (o .lists) n (o .made .start) (o .made .count) (o .mem)) (o .made)
+pivoted n me base lim made l s = gathered n me base lim made l (up n WANT (removed n s me) me 0)

@@ -1,12 +1,12 @@
 // From the built lists to the first pivot, and from a pivot's choice to its gathered element. Every row begins as a variable of weight 1 in the list of its degree;
-// a row without neighbours is an element at once, and a dense row leaves. Then, for each pivot, its new element is gathered, its elements are taken up by it, and
-// the collected rows leave their degree lists. A contract is the function's own model, and the laws of `proofs/` say what it does.
+// a row without neighbours is an element at once, and a dense row leaves. Then, for each pivot, its new element is gathered, whose rows leave their degree lists, and
+// its elements are taken up by it. A contract is the function's own model, and the laws of `proofs/` say what it does.
 ghost use mathlib.Core.Path.{_≡_};
 ghost use Prim.Native.Nat.{_+_, _<_, _^_};
-ghost use Rattle.cells.specs.View.{Room, at, rd, up};
+ghost use Rattle.cells.specs.View.{Room, at, up};
 ghost use Rattle.cells.specs.Rows.{Rows};
 ghost use Rattle.cells.specs.Layout.{HNEXT, WANT};
-ghost use Rattle.chain.specs.Model.{removed, removedAll};
+ghost use Rattle.chain.specs.Model.{removed};
 ghost use Rattle.packed.specs.Gather.{outside, Brief};
 ghost use Rattle.opening.specs.Start.{weighed, marked, begun, begunAll, rooted, leftOut, setting, Slight, setOne, setAll, opened};
 ghost use Rattle.opening.specs.Begin.{savedAll, absorbed, absorbedOne, absorbedAll, gatheredWith, gatheredAlone, gathered, pivoted};
@@ -256,15 +256,7 @@ fn leave(s: &mut [i64], n: usize, me: usize)
     cells::set(s, n, cells::WANT, me, 0);
 }
 
-// The collected rows, in the `k` cells from `from` on, leave their degree lists.
-fn leave_all(lists: &[i64], s: &mut [i64], n: usize, from: usize, k: usize)
-    requires { ⌜ Room n (now s) × Rows n (now lists) × (from < 2 ^ 63) × (k < 2 ^ 63) ⌝ }
-    ensures { λ _. ⌜ (now (s .exit) ≡ removedAll (now (lists .entry)) n from k (now (s .entry))) × Room n (now (s .exit)) ⌝ }
-{
-    chain::take_all(lists, s, n, from, k);
-}
-
-// The pivot `me` leaves its degree list and is wanted no more, its new element is gathered, and the collected rows leave their degree lists.
+// The pivot `me` leaves its degree list and is wanted no more, and its new element is gathered, whose rows leave their degree lists.
 pub fn begin_pivot(
     lists: &mut [i64],
     s: &mut [i64],
@@ -278,7 +270,5 @@ pub fn begin_pivot(
     ensures { λ r. ⌜ (outside (now (lists .exit)) (now (s .exit)) r ≡ pivoted n me base lim made (now (lists .entry)) (now (s .entry))) × Room n (now (s .exit)) × Rows n (now (lists .exit)) × Brief r ⌝ }
 {
     leave(s, n, me);
-    let r = gather(lists, s, n, me, base, lim, made);
-    leave_all(lists, s, n, r.start, r.count);
-    r
+    gather(lists, s, n, me, base, lim, made)
 }

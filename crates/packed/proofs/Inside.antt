@@ -3,7 +3,7 @@
 use Prim.Native.Nat.{_+_, _<_, _^_, _≤_, ℕ}
 use native.Mathlib.Omega.{arith}
 use mathlib.Core.Bool.{false}
-use mathlib.Core.List.{List, []}
+use mathlib.Core.List.{List, [], foldl}
 use mathlib.Core.Logic.{_≢_, inl, inr, ⊎-elim}
 use mathlib.Core.Path.{_∙_, _≡_, ap, refl, sym}
 use lib.Dec.{eqb}
@@ -13,11 +13,13 @@ use Rattle.plain.proofs.Entries.{entries-same}
 use Rattle.plain.proofs.Firsts.{length-firsts}
 use Rattle.plain.specs.Turns.{entries, firsts, upd}
 use Rattle.definition.specs.Room.{Read, readList}
-use Rattle.cells.proofs.Laws.{parent-up-field, rd-up-cell, rd-up-field}
+use Rattle.cells.proofs.Laws.{mem, parent-up-field, rd-up-cell, rd-up-field}
 use Rattle.cells.proofs.Slices.{split}
-use Rattle.cells.specs.Layout.{LEN, ORD, PE, TMP, WANT}
+use Rattle.cells.specs.Layout.{HEAD, LAST, LEN, NEXT, ORD, PE, TMP, WANT}
 use Rattle.cells.specs.Links.{parent}
 use Rattle.cells.specs.View.{at, rd, up}
+use Rattle.chain.proofs.Alike.{Alike, alike-then}
+use Rattle.chain.specs.Model.{removed}
 use Rattle.packed.specs.Gather.{Inside, gatheredInside, replaced}
 use Rattle.packed.specs.Model.{laid}
 use Rattle.packed.specs.Places.{Space, places}
@@ -25,7 +27,7 @@ use Rattle.packed.specs.Reading.{entriesOf, picked}
 use Rattle.packed.specs.Tray.{emptyTray, taking, tookPart}
 use Rattle.packed.proofs.Dropping.{except}
 use Rattle.packed.proofs.Frame.{inside-space, len-of}
-use Rattle.packed.proofs.Newcomer.{Laid, laid-some, tabled-low}
+use Rattle.packed.proofs.Newcomer.{Laid, laid-there}
 use Rattle.packed.proofs.Picked.{entries-list, picked-firsts}
 use Rattle.packed.proofs.Readings.{holds-part}
 use Rattle.packed.proofs.Spaces.{space-rewritten, space-same}
@@ -39,11 +41,13 @@ pub record Replaced (n : ℕ) (X : ℕ → List ℕ) (l s : List ℤ) (cnt base 
   pub long : length (m .lists) ≡ length l
   pub want : (i : ℕ) → rd n WANT (m .mem) i ≡ except (rd n WANT s) x 0 i
   pub table : entries (rd n TMP (m .mem)) 0 (length x) ≡ x
-  pub fields : (f i : ℕ) → eqb LEN f ≡ false → eqb WANT f ≡ false → eqb TMP f ≡ false → rd n f (m .mem) i ≡ rd n f s i
+  -- the rows that were collected left their degree lists
+  pub queues : Alike n (foldl (λ a v. removed n a v) s x) (m .mem)
+  pub fields : (f i : ℕ) → eqb LEN f ≡ false → eqb WANT f ≡ false → eqb TMP f ≡ false → eqb HEAD f ≡ false → eqb NEXT f ≡ false → eqb LAST f ≡ false → rd n f (m .mem) i ≡ rd n f s i
   pub lengths : (i : ℕ) → i ≢ me → rd n LEN (m .mem) i ≡ rd n LEN s i
   pub parents : (i : ℕ) → parent n (m .mem) i ≡ parent n s i
 
-module _ (n : ℕ) (X : ℕ → List ℕ) (l s : List ℤ) (cnt base lim : ℕ) (g : Space n X l s cnt base lim) (small : n < 2 ^ 63) (narrow : length l < 2 ^ 63) (me : ℕ) (hm : me < n) where
+module _ (n : ℕ) (X : ℕ → List ℕ) (l s : List ℤ) (cnt base lim : ℕ) (g : Space n X l s cnt base lim) (narrow : length l < 2 ^ 63) (me : ℕ) (hm : me < n) where
   abbrev k : ℕ
   k = rd n LEN s me
 
@@ -73,14 +77,14 @@ module _ (n : ℕ) (X : ℕ → List ℕ) (l s : List ℤ) (cnt base lim : ℕ) 
 
   taken : Holds n k s q (0 + length (X me)) (tookPart n k l p k (taking s emptyTray))
   unfolding picked
-  taken = holds-part n small k s l p k (X me) (g .lists .lists me) inside-l [] 0 (taking s emptyTray) (omega (arith, bound)) (holds-none n k s (g .room))
+  taken = holds-part n k s (g .room) l p k (X me) (g .lists .lists me) inside-l [] 0 (taking s emptyTray) (omega (arith, bound)) (holds-none n k s (g .room))
 
   module _ (s₁ : List ℤ) (t : Tray) (h : Holds n k s q (0 + length (X me)) (taking s₁ t)) where
     space₁ : Space n X l s₁ cnt base lim
-    space₁ = space-same n X l s cnt base lim g s₁ (h .room) (λ i. h .fields PE i refl refl) (λ i. h .fields LEN i refl refl) (λ i. h .fields ORD i refl refl)
+    space₁ = space-same n X l s cnt base lim g s₁ (h .room) (λ i. h .fields PE i refl refl refl refl refl) (λ i. h .fields LEN i refl refl refl refl refl) (λ i. h .fields ORD i refl refl refl refl refl)
 
     there : Laid l (rd n TMP s₁) (laid n s₁ p (t .cnt) l) p (t .cnt)
-    there = laid-some n s₁ p (t .cnt) l (rw (h .cnt) (tabled-low n s₁ (length q) (entriesOf q) (h .table) (h .low))) (λ z. omega (arith, h .cnt, short, inside-l (omega (arith, h .cnt, short))))
+    there = laid-there n s₁ p l (t .cnt) (λ z. omega (arith, h .cnt, short, inside-l (omega (arith, h .cnt, short))))
 
     here : entries (at (laid n s₁ p (t .cnt) l)) p (t .cnt) ≡ entriesOf q
     here =
@@ -90,8 +94,8 @@ module _ (n : ℕ) (X : ℕ → List ℕ) (l s : List ℤ) (cnt base lim : ℕ) 
     replaced-rep : Replaced n X l s cnt base lim me (entriesOf q) (replaced n me p l (taking s₁ t))
     unfolding replaced
     replaced-rep =
-        let pe : rd n PE s₁ me ≡ p = h .fields PE me refl refl in
-        let le : rd n LEN s₁ me ≡ k = h .fields LEN me refl refl in
+        let pe : rd n PE s₁ me ≡ p = h .fields PE me refl refl refl refl refl in
+        let le : rd n LEN s₁ me ≡ k = h .fields LEN me refl refl refl refl refl in
         record {
           space = space-rewritten n X l s₁ cnt base lim space₁ me hm (laid n s₁ p (t .cnt) l) (t .cnt) (entriesOf q) (omega (arith, le, h .cnt, short)) (there .long)
               (λ c o. there .rest c (⊎-elim (λ a. inl (omega (arith, pe))) (λ a. inr (omega (arith, pe, le, h .cnt, short))) o))
@@ -100,8 +104,9 @@ module _ (n : ℕ) (X : ℕ → List ℕ) (l s : List ℤ) (cnt base lim : ℕ) 
           long = there .long;
           want = λ i. rd-up-field n LEN WANT s₁ me (t .cnt) i refl ∙ h .want i;
           table = rw (← new-length) (entries-same (rd n TMP s₁) (rd n TMP (up n LEN s₁ me (t .cnt))) 0 0 (length q) (λ i b. rd-up-field n LEN TMP s₁ me (t .cnt) (0 + i) refl) ∙ h .table);
-          fields = λ f i a b c. rd-up-field n LEN f s₁ me (t .cnt) i a ∙ h .fields f i b c;
-          lengths = λ i d. rd-up-cell n LEN LEN s₁ me (t .cnt) i (λ e. d (sym e)) ∙ h .fields LEN i refl refl;
+          queues = alike-then (h .queues) record { head = λ i. simp mem; next = λ i. simp mem; last = λ i. simp mem; degree = λ i. simp mem };
+          fields = λ f i a b c u v w. rd-up-field n LEN f s₁ me (t .cnt) i a ∙ h .fields f i b c u v w;
+          lengths = λ i d. rd-up-cell n LEN LEN s₁ me (t .cnt) i (λ e. d (sym e)) ∙ h .fields LEN i refl refl refl refl refl;
           parents = λ i. parent-up-field n LEN s₁ me (t .cnt) i refl ∙ h .parents i;
         }
 

@@ -10,6 +10,7 @@ pub mod Waiting
 pub mod Packing
 pub mod Collection
 pub mod Trays
+pub mod Tables
 pub mod Gathers
 pub mod Taking
 pub mod Picked

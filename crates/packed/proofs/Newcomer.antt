@@ -10,23 +10,18 @@ use borrow.Author.Tests.{lt-ltb}
 use lib.IntN.{ℤ}
 use lib.ListN.{length}
 use Rattle.plain.proofs.Entries.{entries-same}
-use Rattle.plain.proofs.Positions.{member-entries}
-use Rattle.plain.specs.Members.{In}
 use Rattle.plain.specs.Turns.{entries, times, upd}
 use Rattle.cells.proofs.Fields.{room-up}
 use Rattle.cells.proofs.Laws.{mem, room-yes}
+use Rattle.cells.proofs.Rows.{clipped-part}
 use Rattle.cells.proofs.Slices.{at-wr-other, at-wr-same, length-wr, same?}
 use Rattle.cells.specs.Layout.{LEN, ORD, PE, TMP}
 use Rattle.cells.specs.View.{Room, at, rd, up, wr}
-use Rattle.packed.specs.Model.{entered, laid, laidOne}
+use Rattle.packed.specs.Model.{entered, laid}
 use Rattle.packed.specs.Places.{Mem, Space, places}
 use Rattle.packed.proofs.Frame.{ends, other-field}
 use Rattle.packed.proofs.Objects.{added, lowered}
 use Rattle.packed.proofs.Orders.{sorted-added, sorted-fewer}
-
--- what the table has is a row, if the list it stands for has rows alone
-pub tabled-low : (n : ℕ) (s : List ℤ) (k : ℕ) (x : List ℕ) → entries (rd n TMP s) 0 k ≡ x → ((v : ℕ) → In v x → v < n) → (t : ℕ) → t < k → rd n TMP s t < n
-tabled-low n s k x e rows t h = rows (rd n TMP s t) (rw (← e, ← zero-add t) (member-entries (rd n TMP s) 0 k t h))
 
 -- m is l with F 0, .., F (k - 1) at e on
 pub record Laid (l : List ℤ) (F : ℕ → ℕ) (m : List ℤ) (e k : ℕ) : Type 0 where
@@ -45,19 +40,25 @@ one-more l F m e k b c =
       long = length-wr m (e + k) (F k) ∙ c .long;
     }
 
--- the numbers are rows, so that none of them is left out
-pub laid-there : (n : ℕ) (s : List ℤ) (e k : ℕ) (l : List ℤ) → ((t : ℕ) → t < k → rd n TMP s t < n) → e + k ≤ length l → Laid l (rd n TMP s) (laid n s e k l) e k
-unfolding laid laidOne times
-laid-there n s e zero l low b = record { here = λ t h. absurd (omega arith); rest = λ q h. refl; long = refl }
-laid-there n s e (suc k) l low b =
-    rw (lt-ltb (rd n TMP s k) n (low k (omega arith))) (one-more l (rd n TMP s) (laid n s e k l) e k b (laid-there n s e k l (λ t h. low t (omega arith)) (omega arith)))
+module _ (n : ℕ) (s : List ℤ) (e : ℕ) (l : List ℤ) where
+  stored : (k : ℕ) → (0 < k → e + k ≤ length l) → Laid l (rd n TMP s) (times k (λ t m. wr m (e + t) (rd n TMP s t)) l) e k
+  unfolding times
+  stored zero b = record { here = λ t h. absurd (omega arith); rest = λ q h. refl; long = refl }
+  stored (suc k) b =
+      let c = b (omega arith) in
+      one-more l (rd n TMP s) (times k (λ t m. wr m (e + t) (rd n TMP s t)) l) e k c (stored k (λ z. omega arith))
+
+  -- where nothing is to be stored, it need not be there
+  pub laid-there : (k : ℕ) → (0 < k → e + k ≤ length l) → Laid l (rd n TMP s) (laid n s e k l) e k
+  unfolding laid
+  laid-there k b = rw (clipped-part (length l) e k b) (stored k b)
 
 module _ (n : ℕ) (X : ℕ → List ℕ) (l s : List ℤ) (cnt base lim : ℕ) (h : Space n X l s cnt base lim) where
-  pub entered-mem : (j e k : ℕ) → j < n → cnt < n → ((t : ℕ) → t < cnt → rd n ORD s t ≢ j) → ((t : ℕ) → t < k → rd n TMP s t < n) → lim ≤ e → e + k ≤ length l
+  pub entered-mem : (j e k : ℕ) → j < n → cnt < n → ((t : ℕ) → t < cnt → rd n ORD s t ≢ j) → lim ≤ e → e + k ≤ length l
       → Space n (upd X j (entries (rd n TMP s) 0 k)) (laid n s e k l) (entered n s cnt j e k) (suc cnt) base (e + k)
   unfolding entered
-  entered-mem j e k hj hc fresh low le b =
-      let d = laid-there n s e k l low b in
+  entered-mem j e k hj hc fresh le b =
+      let d = laid-there n s e l k (λ z. b) in
       let m : Mem l (places n s) e X = lowered l (places n s) lim X (h .lists) e (omega arith) (λ i q o. omega (arith, h .lists .under i q o)) in
       let r : Room n s = h .room in
       record {
@@ -75,12 +76,3 @@ module _ (n : ℕ) (X : ℕ → List ℕ) (l s : List ℤ) (cnt base lim : ℕ) 
             (simp (mem, room-yes n s r, lt-ltb cnt n hc))
             fresh;
       }
-
-laid-none : (n : ℕ) (s : List ℤ) (e : ℕ) (l : List ℤ) → Laid l (rd n TMP s) (laid n s e 0 l) e 0
-unfolding laid times
-laid-none n s e l = record { here = λ t h. absurd (omega arith); rest = λ q h. refl; long = refl }
-
--- the same, where nothing at all may be stored
-pub laid-some : (n : ℕ) (s : List ℤ) (e k : ℕ) (l : List ℤ) → ((t : ℕ) → t < k → rd n TMP s t < n) → (0 < k → e + k ≤ length l) → Laid l (rd n TMP s) (laid n s e k l) e k
-laid-some n s e zero l low b = laid-none n s e l
-laid-some n s e (suc k) l low b = laid-there n s e (suc k) l low (b (omega arith))

@@ -20,9 +20,11 @@ use Rattle.plain.specs.Members.{Distinct, In}
 use Rattle.plain.specs.Turns.{entries, firsts, upd}
 use Rattle.definition.specs.Room.{Read}
 use Rattle.cells.proofs.Slices.{plus-sum, same?, split}
-use Rattle.cells.specs.Layout.{ELEN, LEN, ORD, PE, TMP, WANT}
+use Rattle.cells.specs.Layout.{DEGREE, ELEN, HEAD, LAST, LEN, NEXT, ORD, PE, TMP, WANT}
 use Rattle.cells.specs.Links.{parent}
 use Rattle.cells.specs.View.{at, plus, rd, up}
+use Rattle.chain.proofs.Alike.{Alike, alike-then}
+use Rattle.chain.specs.Model.{removed}
 use Rattle.packed.specs.Gather.{Cleared, Outside, allLengths, cleared, collectedRest, droppedAll, gatheredOutside, madeRoom, settled, summed}
 use Rattle.packed.specs.Model.{entered, laid, packedAll}
 use Rattle.packed.specs.Places.{Owns, Space, places, sumTo}
@@ -55,7 +57,10 @@ pub record Gathered (n : ℕ) (X : ℕ → List ℕ) (l s : List ℤ) (made base
   pub table : entries (rd n TMP (m .mem)) 0 (length q) ≡ entriesOf q
   pub order : (t : ℕ) → t ≢ made → rd n ORD (m .mem) t ≡ rd n ORD s t
   pub last : rd n ORD (m .mem) made ≡ me
-  pub fields : (f i : ℕ) → eqb PE f ≡ false → eqb LEN f ≡ false → eqb WANT f ≡ false → eqb TMP f ≡ false → eqb ORD f ≡ false → rd n f (m .mem) i ≡ rd n f s i
+  -- the rows that were collected left their degree lists
+  pub queues : Alike n (foldl (λ a v. removed n a v) s (entriesOf q)) (m .mem)
+  pub fields : (f i : ℕ) → eqb PE f ≡ false → eqb LEN f ≡ false → eqb WANT f ≡ false → eqb TMP f ≡ false → eqb ORD f ≡ false → eqb HEAD f ≡ false → eqb NEXT f ≡ false
+      → eqb LAST f ≡ false → rd n f (m .mem) i ≡ rd n f s i
   -- what is dead keeps its place and its parent
   pub dead : (i : ℕ) → i ≢ me → rd n LEN (m .mem) i ≡ 0 → rd n PE (m .mem) i ≡ rd n PE s i
   pub parents : (i : ℕ) → i ≢ me → rd n LEN (m .mem) i ≡ 0 → parent n (m .mem) i ≡ parent n s i
@@ -129,7 +134,7 @@ module _ (n : ℕ) (X : ℕ → List ℕ) (l s : List ℤ) (made base lim : ℕ)
     reads = afterParts X 0 es + length vs
 
     taken : Holds n quota s q reads (tookAll n quota l s me)
-    taken = holds-all n small quota s l lim X (g .lists) me es vs parts elen under (omega (arith, read-sum, left-sum, all-low)) (g .room)
+    taken = holds-all n quota s (g .room) l lim X (g .lists) me es vs parts elen under (omega (arith, read-sum, left-sum, all-low))
 
     -- no more than there are numbers
     pub few : length q ≤ n
@@ -137,14 +142,14 @@ module _ (n : ℕ) (X : ℕ → List ℕ) (l s : List ℤ) (made base lim : ℕ)
 
     module _ (turns : made < n) (fresh : (t : ℕ) → t < made → rd n ORD s t ≢ me) (s₁ : List ℤ) (t : Tray) (h : Holds n quota s q reads (taking s₁ t)) where
       space₁ : Space n X l s₁ made base lim
-      space₁ = space-same n X l s made base lim g s₁ (h .room) (λ i. h .fields PE i refl refl) (λ i. h .fields LEN i refl refl) (λ i. h .fields ORD i refl refl)
+      space₁ = space-same n X l s made base lim g s₁ (h .room) (λ i. h .fields PE i refl refl refl refl refl) (λ i. h .fields LEN i refl refl refl refl refl) (λ i. h .fields ORD i refl refl refl refl refl)
 
       s₂ : List ℤ
       s₂ = droppedAll n l me s₁
 
       drops : s₂ ≡ foldl (λ a e. up n LEN a e 0) s₁ gone
       unfolding s₂
-      drops = dropped-all n l s₁ me es (rw (h .fields PE me refl refl, h .fields ELEN me refl refl) (first-part n small quota s l lim X (g .lists) me es vs parts elen))
+      drops = dropped-all n l s₁ me es (rw (h .fields PE me refl refl refl refl refl, h .fields ELEN me refl refl refl refl refl) (first-part n quota s (g .room) l lim X (g .lists) me es vs parts elen))
 
       space₂ : Space n Y l s₂ made base lim
       space₂ = rw drops (space-fold n l made base lim gone X s₁ gone-low space₁)
@@ -195,14 +200,14 @@ module _ (n : ℕ) (X : ℕ → List ℕ) (l s : List ℤ) (made base lim : ℕ)
       table₂ = rw new-length (entries-same (rd n TMP s₁) (rd n TMP s₂) 0 0 (length q) (λ i b. freed .fields TMP (0 + i) refl) ∙ h .table)
 
       fresh₂ : (i : ℕ) → i < made → rd n ORD s₂ i ≢ me
-      fresh₂ i b e = fresh i b (sym (h .fields ORD i refl refl) ∙ sym (freed .fields ORD i refl) ∙ e)
+      fresh₂ i b e = fresh i b (sym (h .fields ORD i refl refl refl refl refl) ∙ sym (freed .fields ORD i refl) ∙ e)
 
       module _ (c : Cleared) (r : Ready n Y l s₂ made (length q) c) where
         stands : Settled n Y l s₂ made me (c .ends .end) (c .ends .base) new (laid n (c .mem) (c .ends .end) (t .cnt) (c .lists)) (entered n (c .mem) made me (c .ends .end) (t .cnt))
         stands =
             let e : t .cnt ≡ length new = h .cnt ∙ sym new-length in
             subst⁻¹ (λ (k : ℕ). Settled n Y l s₂ made me (c .ends .end) (c .ends .base) new (laid n (c .mem) (c .ends .end) k (c .lists)) (entered n (c .mem) made me (c .ends .end) k)) e
-            (settled-there n Y l s₂ made me new c hm turns fresh₂ table₂ (h .low) (rw (← new-length) at r))
+            (settled-there n Y l s₂ made me new c hm turns fresh₂ table₂ (rw (← new-length) at r))
 
         whole : (length q ≤ quota → (c .ends .end ≡ lim) × (c .ends .base ≡ base) × (t .mark ≡ 0)) → (quota < length q → (c .ends .end ≡ sumTo n L - t .mark) × (0 < t .mark))
             → Gathered n X l s made base lim me es q (settled n me made t c)
@@ -223,10 +228,17 @@ module _ (n : ℕ) (X : ℕ → List ℕ) (l s : List ℤ) (made base lim : ℕ)
               want = λ i. stands .fields WANT i refl refl refl ∙ freed .fields WANT i refl ∙ h .want i;
               table = entries-same (rd n TMP s₁) (rd n TMP (entered n (c .mem) made me (c .ends .end) (t .cnt))) 0 0 (length q)
                   (λ i b. stands .fields TMP (0 + i) refl refl refl ∙ freed .fields TMP (0 + i) refl) ∙ h .table;
-              order = λ i d. stands .order i d ∙ freed .fields ORD i refl ∙ h .fields ORD i refl refl;
+              order = λ i d. stands .order i d ∙ freed .fields ORD i refl ∙ h .fields ORD i refl refl refl refl refl;
               last = stands .last;
-              fields = λ k i a b d e o. stands .fields k i a b o ∙ freed .fields k i b ∙ h .fields k i d e;
-              dead = λ i d z. stands .dead i d z ∙ freed .fields PE i refl ∙ h .fields PE i refl refl;
+              queues = alike-then (h .queues)
+                  record {
+                    head = λ i. stands .fields HEAD i refl refl refl ∙ freed .fields HEAD i refl;
+                    next = λ i. stands .fields NEXT i refl refl refl ∙ freed .fields NEXT i refl;
+                    last = λ i. stands .fields LAST i refl refl refl ∙ freed .fields LAST i refl;
+                    degree = λ i. stands .fields DEGREE i refl refl refl ∙ freed .fields DEGREE i refl;
+                  };
+              fields = λ k i a b d e o u v w. stands .fields k i a b o ∙ freed .fields k i b ∙ h .fields k i d e u v w;
+              dead = λ i d z. stands .dead i d z ∙ freed .fields PE i refl ∙ h .fields PE i refl refl refl refl refl;
               parents = λ i d z. stands .parents i d z ∙ freed .parents i ∙ h .parents i;
               kept = λ b. let y = stay b in (y .0, y .1, rw (y .2));
               moved = λ b. let y = move b in (y .0 ∙ ap (λ (k : ℕ). sumTo n L - k) (h .mark), rw (lt-ltb 0 (t .mark) (y .1)));

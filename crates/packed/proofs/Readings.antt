@@ -26,7 +26,7 @@ use Rattle.packed.specs.declared.Tray.{Tray}
 after-grows : (X : ℕ → List ℕ) (c : ℕ) (es : List ℕ) → c ≤ afterParts X c es
 after-grows X c es = omega (arith, after-is X c es)
 
-module _ (n : ℕ) (small : n < 2 ^ 63) (quota : ℕ) (s : List ℤ) where
+module _ (n : ℕ) (quota : ℕ) (s : List ℤ) (room : Room n s) where
   abbrev Has : List Read → ℕ → Taking → Type 0
   Has q r m = Holds n quota s q r m
 
@@ -42,7 +42,7 @@ module _ (n : ℕ) (small : n < 2 ^ 63) (quota : ℕ) (s : List ℤ) where
   holds-list [] q r m b h = let e : r + 0 ≡ r = omega arith in rw e h
   holds-list (x ∷ y) q r m b h =
       let e : suc r + length y ≡ r + suc (length y) = omega arith in
-      rw (← e) (holds-list y (pick q (record { entry = x; sofar = suc r })) (suc r) (takeIn m x) (omega arith) (holds-read n small quota s q r m h x (omega arith)))
+      rw (← e) (holds-list y (pick q (record { entry = x; sofar = suc r })) (suc r) (takeIn m x) (omega arith) (holds-read n quota s room q r m h x (omega arith)))
 
   -- a part of the list space
   pub holds-part : (l : List ℤ) (p k : ℕ) (y : List ℕ) → entries (at l) p k ≡ y → (0 < k → p + k ≤ length l) → (q : List Read) (r : ℕ) (m : Taking) → r + length y < 2 ^ 63 → Has q r m
@@ -53,11 +53,11 @@ module _ (n : ℕ) (small : n < 2 ^ 63) (quota : ℕ) (s : List ℤ) where
   module _ (l : List ℤ) (lim : ℕ) (X : ℕ → List ℕ) (g : Mem l (places n s) lim X) where
     -- the list of an object
     object : (q : List Read) (r : ℕ) (m : Taking) → Has q r m → (e : ℕ) → entries (at l) (rd n PE (m .mem) e) (rd n LEN (m .mem) e) ≡ X e
-    object q r m h e = rw (h .fields PE e refl refl, h .fields LEN e refl refl) (g .lists e)
+    object q r m h e = rw (h .fields PE e refl refl refl refl refl, h .fields LEN e refl refl refl refl refl) (g .lists e)
 
     object-inside : (q : List Read) (r : ℕ) (m : Taking) → Has q r m → (e : ℕ) → 0 < rd n LEN (m .mem) e → rd n PE (m .mem) e + rd n LEN (m .mem) e ≤ length l
     object-inside q r m h e =
-        rw (h .fields PE e refl refl, h .fields LEN e refl refl) (inside-space l (places n s) lim X g e)
+        rw (h .fields PE e refl refl refl refl refl, h .fields LEN e refl refl refl refl refl) (inside-space l (places n s) lim X g e)
 
     -- an element's number, and its list
     element : ℕ → Taking → Taking
@@ -72,7 +72,7 @@ module _ (n : ℕ) (small : n < 2 ^ 63) (quota : ℕ) (s : List ℤ) where
         rw (foldl-append pick q (readList (suc r) (X e)) (readParts X (suc r + length (X e)) es))
         (holds-elements es (foldl pick q (readList (suc r) (X e))) (suc r + length (X e)) (element e m) b
         (holds-part l (rd n PE (m .mem) e) (rd n LEN (m .mem) e) (X e) (object q r m h e) (object-inside q r m h e) q (suc r) (taking (m .mem) (passedBy (m .tray))) (omega arith)
-        (holds-passed n small quota s q r m (omega arith) h)))
+        (holds-passed n quota s room q r m (omega arith) h)))
 
     elements-fold : (p k : ℕ) (m : Taking) → (0 < k → p + k ≤ length l) → tookElements n quota l p k m ≡ foldl (λ a e. element e a) m (entries (at l) p k)
     unfolding tookElements tookElement element
@@ -105,20 +105,20 @@ module _ (n : ℕ) (small : n < 2 ^ 63) (quota : ℕ) (s : List ℤ) where
       unfolding ownPart
       own-part b m q r h =
           let e : length es + length vs - length es ≡ length vs = omega arith in
-          rw (h .fields PE me refl refl, h .fields ELEN me refl refl, h .fields LEN me refl refl, elen, len, e) (own vs refl b)
+          rw (h .fields PE me refl refl refl refl refl, h .fields ELEN me refl refl refl refl refl, h .fields LEN me refl refl refl refl refl, elen, len, e) (own vs refl b)
 
       own-inside : lim < 2 ^ 63 → (m : Taking) (q : List Read) (r : ℕ) → Has q r m → 0 < ownPart n (m .mem) me .len
           → ownPart n (m .mem) me .from + ownPart n (m .mem) me .len ≤ length l
       unfolding ownPart
       own-inside b m q r h =
           let e : length es + length vs - length es ≡ length vs = omega arith in
-          rw (h .fields PE me refl refl, h .fields ELEN me refl refl, h .fields LEN me refl refl, elen, len, e)
+          rw (h .fields PE me refl refl refl refl refl, h .fields ELEN me refl refl refl refl refl, h .fields LEN me refl refl refl refl refl, elen, len, e)
           (λ z. omega (arith, own-from b z, len, inside-space l (places n s) lim X g me (omega (arith, len))))
 
-      pub holds-all : lim < 2 ^ 63 → afterParts X 0 es + length vs < 2 ^ 63 → Room n s
+      pub holds-all : lim < 2 ^ 63 → afterParts X 0 es + length vs < 2 ^ 63
           → Has (picked (wants n s) (readAll X es vs)) (afterParts X 0 es + length vs) (tookAll n quota l s me)
       unfolding picked readAll tookAll tookOwn
-      holds-all b c room =
+      holds-all b c =
           let m₀ : Taking = taking s emptyTray in
           let h₁ : Has (foldl pick [] (readParts X 0 es)) (afterParts X 0 es) (tookElements n quota l (rd n PE s me) (rd n ELEN s me) m₀)
           = rw (elements-fold (rd n PE s me) (rd n ELEN s me) m₀ first-inside, first-part) (holds-elements es [] 0 m₀ (omega arith) (holds-none n quota s room)) in

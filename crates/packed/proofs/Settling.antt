@@ -11,7 +11,6 @@ use lib.Dec.{eqb}
 use lib.IntN.{ℤ}
 use lib.ListN.{length}
 use Rattle.plain.proofs.Entries.{entries-same}
-use Rattle.plain.specs.Members.{In}
 use Rattle.plain.specs.Turns.{entries, upd}
 use Rattle.cells.proofs.Laws.{mem, rd-up-field, room-yes}
 use Rattle.cells.specs.Layout.{LEN, ORD, PE, TMP}
@@ -20,7 +19,7 @@ use Rattle.cells.specs.View.{Room, rd, up}
 use Rattle.packed.specs.Gather.{Cleared}
 use Rattle.packed.specs.Model.{entered, laid}
 use Rattle.packed.specs.Places.{Owns, Space, places}
-use Rattle.packed.proofs.Newcomer.{entered-mem, laid-there, tabled-low}
+use Rattle.packed.proofs.Newcomer.{entered-mem, laid-there}
 use Rattle.packed.specs.declared.Tray.{Tray}
 use Rattle.packed.specs.declared.Ends.{Ends}
 
@@ -50,20 +49,19 @@ pub record Settled (n : ℕ) (Y : ℕ → List ℕ) (l s : List ℤ) (made me st
   pub parents : (i : ℕ) → i ≢ me → rd n LEN s′ i ≡ 0 → parent n s′ i ≡ parent n s i
 
 pub settled-there : (n : ℕ) (Y : ℕ → List ℕ) (l s : List ℤ) (made me : ℕ) (x : List ℕ) (c : Cleared) → me < n → made < n → ((t : ℕ) → t < made → rd n ORD s t ≢ me)
-    → entries (rd n TMP s) 0 (length x) ≡ x → ((v : ℕ) → In v x → v < n) → Ready n Y l s made (length x) c
+    → entries (rd n TMP s) 0 (length x) ≡ x → Ready n Y l s made (length x) c
     → Settled n Y l s made me (c .ends .end) (c .ends .base) x (laid n (c .mem) (c .ends .end) (length x) (c .lists)) (entered n (c .mem) made me (c .ends .end) (length x))
 unfolding entered
-settled-there n Y l s made me x c hm ht fresh tab rows h =
+settled-there n Y l s made me x c hm ht fresh tab h =
     let e = c .ends .end in
     let k = length x in
     let a : List ℤ = c .mem in
     let same : entries (rd n TMP a) 0 k ≡ x = entries-same (rd n TMP s) (rd n TMP a) 0 0 k (λ t b. h .fields TMP (0 + t) refl) ∙ tab in
-    let low : (t : ℕ) → t < k → rd n TMP a t < n = tabled-low n a k x same rows in
     let r : Room n a = h .space .room in
-    let g = entered-mem n Y (c .lists) a made (c .ends .base) (h .top) (h .space) me e k hm ht (λ t b y. fresh t b (sym (h .fields ORD t refl) ∙ y)) low (h .behind) (omega (arith, h .long, h .fits)) in
+    let g = entered-mem n Y (c .lists) a made (c .ends .base) (h .top) (h .space) me e k hm ht (λ t b y. fresh t b (sym (h .fields ORD t refl) ∙ y)) (h .behind) (omega (arith, h .long, h .fits)) in
     record {
       space = entered-as n (upd Y me (entries (rd n TMP a) 0 k)) (upd Y me x) _ _ _ _ _ (ap (upd Y me) same) g;
-      long = laid-there n a e k (c .lists) low (omega (arith, h .long, h .fits)) .long ∙ h .long;
+      long = laid-there n a e (c .lists) k (λ z. omega (arith, h .long, h .fits)) .long ∙ h .long;
       others = λ i q d o.
           let u : rd n PE (up n ORD (up n LEN (up n PE a me e) me k) made me) i ≡ rd n PE a i = simp mem in
           let v : rd n LEN (up n ORD (up n LEN (up n PE a me e) me k) made me) i ≡ rd n LEN a i = simp mem in

@@ -1,13 +1,15 @@
 -- The code's steps are the model's: one law for each way out of a function, its premises in the words of what was called.
 -- Assumes nothing.
-use Prim.Native.Nat.{_<_, _≤_, ℕ}
+use Prim.Native.Nat.{_+_, _<_, _≤_, ℕ}
 use mathlib.Core.List.{List}
 use mathlib.Core.Path.{_≡_, ap}
 use borrow.Author.Tests.{le-ltb, lt-ltb}
 use lib.IntN.{ℤ}
+use Rattle.plain.proofs.Turns.{turn}
+use Rattle.plain.specs.Turns.{Turned}
 use Rattle.cells.specs.Layout.{LEN, ORD, PE, TMP}
 use Rattle.cells.specs.View.{plus, rd, up, wr}
-use Rattle.packed.specs.Model.{Heap, copied, entered, heap, laidOne, movedDown, movedLow, movedNew, movedNext, movedOne, packedAll, packedLow}
+use Rattle.packed.specs.Model.{Heap, copied, entered, heap, movedDown, movedLow, movedNew, movedNext, movedOne, packedAll, packedLow}
 use Rattle.packed.specs.Places.{due, places}
 
 -- ---- the collection
@@ -46,14 +48,9 @@ module _ (n base lim cnt : ℕ) (l s : List ℤ) (l₁ s₁ : List ℤ) (b : ℕ
 
 -- ---- a list laid at a place
 
-module _ (n : ℕ) (s l : List ℤ) (t e x : ℕ) (hx : x ≡ rd n TMP s t) where
-  pub lay-yes : (r : List ℤ) → r ≡ wr l e x → x < n → r ≡ laidOne n e (rd n TMP s t) l
-  unfolding laidOne
-  lay-yes r hr h = rw (← hx, lt-ltb x n h) hr
-
-  pub lay-no : n ≤ x → l ≡ laidOne n e (rd n TMP s t) l
-  unfolding laidOne
-  lay-no h = rw (← hx, le-ltb x n h)
+pub lay-turn : (n : ℕ) (s l₀ l : List ℤ) (e t x : ℕ) (r : List ℤ) → Turned (λ i m. wr m (e + i) (rd n TMP s i)) l₀ t l → x ≡ rd n TMP s t → r ≡ wr l (e + t) x
+    → Turned (λ i m. wr m (e + i) (rd n TMP s i)) l₀ (t + 1) r
+lay-turn n s l₀ l e t x r h hx hr = turn (λ i m. wr m (e + i) (rd n TMP s i)) l₀ t l h r (rw (← hx) hr)
 
 pub enter-step : (n : ℕ) (s : List ℤ) (cnt j e k : ℕ) (a b c : List ℤ) → a ≡ up n PE s j e → b ≡ up n LEN a j k → c ≡ up n ORD b cnt j → c ≡ entered n s cnt j e k
 unfolding entered

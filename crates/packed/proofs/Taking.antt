@@ -3,7 +3,7 @@
 use Prim.Native.Nat.{_+_, _<_, _^_, _≤_, suc, zero, ℕ}
 use native.Mathlib.Omega.{arith}
 use mathlib.Core.Bool.{Bool, _&&_, _||_, cond, false, not, true}
-use mathlib.Core.List.{List, [], _++_, _∷_, map-append}
+use mathlib.Core.List.{List, [], _++_, _∷_, foldl, map-append}
 use mathlib.Core.Logic.{_≢_, _⊎_, inl, inr, ⊎-elim}
 use mathlib.Core.Path.{_∙_, _≡_, ap, refl, sym}
 use borrow.Author.Tests.{eq-eqb, eqb-false, le-ltb, lt-ltb, ne-eqb}
@@ -20,13 +20,17 @@ use Rattle.plain.specs.Turns.{entries}
 use Rattle.definition.specs.Room.{Read}
 use Rattle.cells.proofs.Fields.{rd-null, room-up}
 use Rattle.cells.proofs.Laws.{mem, parent-up-field, rd-up-field, room-yes}
-use Rattle.cells.proofs.Slices.{plus-sum, same?, split}
-use Rattle.cells.specs.Layout.{TMP, WANT}
+use Rattle.cells.proofs.Slices.{same?, split}
+use Rattle.cells.specs.Layout.{HEAD, LAST, NEXT, TMP, WANT}
 use Rattle.cells.specs.Links.{parent}
-use Rattle.cells.specs.View.{Room, at, plus, rd, up}
+use Rattle.cells.specs.View.{Room, rd, up}
+use Rattle.chain.proofs.Alike.{Alike, alike-self, alike-then, fold-room, removed-alike}
+use Rattle.chain.proofs.Unlink.{removed-other, removed-parent, removed-room}
+use Rattle.chain.specs.Model.{removed}
 use Rattle.packed.specs.Reading.{entriesOf, pickOne, sofarOf}
-use Rattle.packed.specs.Tray.{Taking, counted, emptyTray, passedBy, taking, took}
-use Rattle.packed.proofs.Trays.{take-no, take-yes}
+use Rattle.packed.specs.Tray.{Taking, counted, emptyTray, passedBy, taking, took, tookRow, tookWanted, wrapped}
+use Rattle.packed.proofs.Picked.{foldl-append}
+use Rattle.packed.proofs.Trays.{wrapped-sum}
 use Rattle.packed.specs.declared.Tray.{Tray}
 
 -- ---- a list with one entry more
@@ -57,7 +61,9 @@ pub record Holds (n quota : ℕ) (s : List ℤ) (q : List Read) (r : ℕ) (m : T
   pub mark : m .tray .mark ≡ getD (sofarOf q) quota 0
   pub table : entries (rd n TMP (m .mem)) 0 (length q) ≡ entriesOf q
   pub want : (i : ℕ) → rd n WANT (m .mem) i ≡ cond (member i (entriesOf q)) 0 (rd n WANT s i)
-  pub fields : (c i : ℕ) → eqb WANT c ≡ false → eqb TMP c ≡ false → rd n c (m .mem) i ≡ rd n c s i
+  -- the rows that were collected left their degree lists
+  pub queues : Alike n (foldl (λ a v. removed n a v) s (entriesOf q)) (m .mem)
+  pub fields : (c i : ℕ) → eqb WANT c ≡ false → eqb TMP c ≡ false → eqb HEAD c ≡ false → eqb NEXT c ≡ false → eqb LAST c ≡ false → rd n c (m .mem) i ≡ rd n c s i
   pub parents : (i : ℕ) → parent n (m .mem) i ≡ parent n s i
   pub room : Room n (m .mem)
   pub once : Distinct (entriesOf q)
@@ -75,7 +81,8 @@ holds-none n quota s room =
       mark = refl;
       table = entries-none (rd n TMP s) 0;
       want = λ i. refl;
-      fields = λ c i a b. refl;
+      queues = alike-self n s;
+      fields = λ c i a b d e f. refl;
       parents = λ i. refl;
       room = room;
       once = tt;
@@ -84,17 +91,18 @@ holds-none n quota s room =
       early = λ k h. absurd (omega arith);
     }
 
-module _ (n : ℕ) (small : n < 2 ^ 63) (quota : ℕ) (s : List ℤ) where
+module _ (n : ℕ) (quota : ℕ) (s : List ℤ) (room : Room n s) where
   -- one place more is read, and nothing collected
   pub holds-passed : (q : List Read) (r : ℕ) (m : Taking) → suc r < 2 ^ 63 → Holds n quota s q r m → Holds n quota s q (suc r) (taking (m .mem) (passedBy (m .tray)))
   unfolding passedBy
   holds-passed q r m b h =
       record {
         cnt = h .cnt;
-        reads = plus-sum (m .tray .reads) 1 (omega (arith, h .reads)) ∙ omega (arith, h .reads);
+        reads = wrapped-sum (m .tray .reads) 1 (omega (arith, h .reads)) ∙ omega (arith, h .reads);
         mark = h .mark;
         table = h .table;
         want = h .want;
+        queues = h .queues;
         fields = h .fields;
         parents = h .parents;
         room = h .room;
@@ -144,6 +152,15 @@ module _ (n : ℕ) (small : n < 2 ^ 63) (quota : ℕ) (s : List ℤ) where
       abbrev s₂ : List ℤ
       s₂ = up n TMP s₁ (m .tray .cnt) x
 
+      abbrev s₃ : List ℤ
+      s₃ = removed n s₂ x
+
+      same₃ : (c i : ℕ) → eqb HEAD c ≡ false → eqb NEXT c ≡ false → eqb LAST c ≡ false → rd n c s₃ i ≡ rd n c s₂ i
+      same₃ = removed-other n s₂ x
+
+      room₂ : Room n s₂
+      room₂ = room-up n TMP s₁ (m .tray .cnt) x (room-up n WANT (m .mem) x 0 (h .room))
+
       entries-more : entriesOf (q ++ (a ∷ [])) ≡ entriesOf q ++ (x ∷ [])
       entries-more = map-append (λ (c : Read). c .entry) q (a ∷ [])
 
@@ -156,14 +173,15 @@ module _ (n : ℕ) (small : n < 2 ^ 63) (quota : ℕ) (s : List ℤ) where
       sofar-at : (k : ℕ) → getD (sofarOf (q ++ (a ∷ []))) k 0 ≡ cond (eqb (length q) k) (suc r) (getD (sofarOf q) k 0)
       sofar-at k = rw sofar-more (getD-snoc (sofarOf q) (suc r) k ∙ ap (λ (y : ℕ). cond (eqb y k) (suc r) (getD (sofarOf q) k 0)) (length-map q (λ (c : Read). c .sofar)))
 
-      tabled : entries (rd n TMP s₂) 0 (length (q ++ (a ∷ []))) ≡ entriesOf (q ++ (a ∷ []))
+      tabled : entries (rd n TMP s₃) 0 (length (q ++ (a ∷ []))) ≡ entriesOf (q ++ (a ∷ []))
       tabled =
           let c : m .tray .cnt ≡ length q = h .cnt in
-          let here : rd n TMP s₂ (length q) ≡ x = rw c (simp (mem, room-yes n (m .mem) (h .room), lt-ltb (length q) n free)) in
-          let old : entries (rd n TMP s₂) 0 (length q) ≡ entries (rd n TMP (m .mem)) 0 (length q)
-          = entries-same (rd n TMP (m .mem)) (rd n TMP s₂) 0 0 (length q) (λ t l. let u : m .tray .cnt ≢ 0 + t = λ e. absurd (omega arith) in simp mem) in
+          let here : rd n TMP s₃ (length q) ≡ x = same₃ TMP (length q) refl refl refl ∙ rw c (simp (mem, room-yes n (m .mem) (h .room), lt-ltb (length q) n free)) in
+          let old : entries (rd n TMP s₃) 0 (length q) ≡ entries (rd n TMP (m .mem)) 0 (length q)
+          = entries-same (rd n TMP (m .mem)) (rd n TMP s₃) 0 0 (length q)
+          (λ t l. let u : m .tray .cnt ≢ 0 + t = λ e. absurd (omega arith) in let v : rd n TMP s₂ (0 + t) ≡ rd n TMP (m .mem) (0 + t) = simp mem in same₃ TMP (0 + t) refl refl refl ∙ v) in
           let e : 0 + length q ≡ length q = omega arith in
-          rw (length-more, entries-more, entries-snoc (rd n TMP s₂) 0 (length q), e, here, old) (ap (λ (y : List ℕ). y ++ (x ∷ [])) (h .table))
+          rw (length-more, entries-more, entries-snoc (rd n TMP s₃) 0 (length q), e, here, old) (ap (λ (y : List ℕ). y ++ (x ∷ [])) (h .table))
 
       cleared-at : (i : ℕ) → (i ≡ x) ⊎ (i ≢ x) → rd n WANT s₂ i ≡ cond (member i (entriesOf (q ++ (a ∷ [])))) 0 (rd n WANT s i)
       unfolding member
@@ -182,19 +200,26 @@ module _ (n : ℕ) (small : n < 2 ^ 63) (quota : ℕ) (s : List ℤ) where
       low-at y (inl i) = h .low y i
       low-at y (inr i) = member-cases (y < n) y x [] i (λ e. rw e inside) (λ d j. no-member y j)
 
-      collected : Holds n quota s (q ++ (a ∷ [])) (suc r) (taking s₂ (counted quota (plus (m .tray .reads) 1) (m .tray)))
+      queues-more : Alike n (foldl (λ b v. removed n b v) s (entriesOf (q ++ (a ∷ [])))) s₃
+      queues-more =
+          let f : Alike n (m .mem) s₂ = record { head = λ i. simp mem; next = λ i. simp mem; last = λ i. simp mem; degree = λ i. simp mem } in
+          rw (entries-more, foldl-append (λ b v. removed n b v) s (entriesOf q) (x ∷ []))
+          (removed-alike n (foldl (λ b v. removed n b v) s (entriesOf q)) s₂ x (fold-room n (entriesOf q) s room) room₂ (alike-then (h .queues) f))
+
+      collected : Holds n quota s (q ++ (a ∷ [])) (suc r) (taking s₃ (counted quota (wrapped (m .tray .reads) 1) (m .tray)))
       unfolding counted
       collected =
-          let k : plus (m .tray .reads) 1 ≡ suc r = plus-sum (m .tray .reads) 1 (omega (arith, h .reads)) ∙ omega (arith, h .reads) in
+          let k : wrapped (m .tray .reads) 1 ≡ suc r = wrapped-sum (m .tray .reads) 1 (omega (arith, h .reads)) ∙ omega (arith, h .reads) in
           record {
-            cnt = plus-sum (m .tray .cnt) 1 (omega (arith, h .cnt, free)) ∙ omega (arith, h .cnt, length-more);
+            cnt = omega (arith, h .cnt, length-more);
             reads = k;
             mark = rw (k, h .cnt, h .mark) (sym (sofar-at quota));
             table = tabled;
-            want = λ i. cleared-at i (same? i x);
-            fields = λ c i u v. rd-up-field n TMP c s₁ (m .tray .cnt) x i v ∙ rd-up-field n WANT c (m .mem) x 0 i u ∙ h .fields c i u v;
-            parents = λ i. parent-up-field n TMP s₁ (m .tray .cnt) x i refl ∙ parent-up-field n WANT (m .mem) x 0 i refl ∙ h .parents i;
-            room = room-up n TMP s₁ (m .tray .cnt) x (room-up n WANT (m .mem) x 0 (h .room));
+            want = λ i. same₃ WANT i refl refl refl ∙ cleared-at i (same? i x);
+            queues = queues-more;
+            fields = λ c i u v e f g. same₃ c i e f g ∙ rd-up-field n TMP c s₁ (m .tray .cnt) x i v ∙ rd-up-field n WANT c (m .mem) x 0 i u ∙ h .fields c i u v e f g;
+            parents = λ i. removed-parent n s₂ x i ∙ parent-up-field n TMP s₁ (m .tray .cnt) x i refl ∙ parent-up-field n WANT (m .mem) x 0 i refl ∙ h .parents i;
+            room = removed-room n s₂ x room₂;
             once = rw entries-more (distinct-snoc x (entriesOf q) (h .once) fresh);
             low = λ y i. low-at y (append-either y (entriesOf q) (x ∷ []) (rw entries-more at i));
             late = λ c. rw (sofar-at c) (cond-has (λ (y : ℕ). y ≤ suc r) (eqb (length q) c) (λ e. omega arith) (λ e. omega (arith, h .late c)));
@@ -202,19 +227,17 @@ module _ (n : ℕ) (small : n < 2 ^ 63) (quota : ℕ) (s : List ℤ) where
                 (λ e. let d = eqb-false (length q) c e in h .early c (omega (arith, d, length-more))));
           }
 
+      took-row : took n quota x m ≡ taking s₃ (counted quota (wrapped (m .tray .reads) 1) (m .tray))
+      unfolding took tookWanted tookRow
+      took-row = rw (lt-ltb 0 (rd n WANT (m .mem) x) z, lt-ltb (m .tray .cnt) n (omega (arith, h .cnt, free)))
+
+    passed : rd n WANT (m .mem) x ≤ 0 → took n quota x m ≡ taking (m .mem) (passedBy (m .tray))
+    unfolding took
+    passed z = rw (le-ltb 0 (rd n WANT (m .mem) x) z)
+
     pub holds-read : suc r < 2 ^ 63 → Holds n quota s (pickOne (wants n s) q a) (suc r) (took n quota x m)
     holds-read b = go (split 0 (rd n WANT (m .mem) x))
       where
         go : (0 < rd n WANT (m .mem) x) ⊎ (rd n WANT (m .mem) x ≤ 0) → Holds n quota s (pickOne (wants n s) q a) (suc r) (took n quota x m)
-        go (inl z) =
-            rw (
-              picks true (lt-ltb 0 (rd n WANT (m .mem) x) z),
-              ← take-yes n x quota (m .mem) (m .tray) (rd n WANT (m .mem) x) refl (s₁ z b) (s₂ z b) (plus (m .tray .reads) 1) (counted quota (plus (m .tray .reads) 1) (m .tray)) refl refl refl refl z,
-            )
-            (collected z b)
-        go (inr z) =
-            rw (
-              picks false (le-ltb 0 (rd n WANT (m .mem) x) z),
-              ← take-no n x quota (m .mem) (m .tray) (rd n WANT (m .mem) x) refl (passedBy (m .tray)) refl z,
-            )
-            (holds-passed q r m b h)
+        go (inl z) = rw (picks true (lt-ltb 0 (rd n WANT (m .mem) x) z), took-row z b) (collected z b)
+        go (inr z) = rw (picks false (le-ltb 0 (rd n WANT (m .mem) x) z), passed z) (holds-passed q r m b h)

@@ -1,6 +1,8 @@
 -- The code of a gather's reading is the model's: one law for each way out of a function.
 -- Assumes nothing.
-use Prim.Native.Nat.{_-_, _<_, _≤_, ℕ}
+use Prim.Native.Nat.{_%_, _+_, _-_, _<_, _^_, _≤_, ℕ}
+use native.Mathlib.Nat.{mod-eq-of-lt}
+use native.Mathlib.Omega.{arith}
 use mathlib.Core.List.{List}
 use mathlib.Core.Logic.{_≢_}
 use mathlib.Core.Path.{_≡_}
@@ -8,40 +10,51 @@ use borrow.Author.Tests.{eq-eqb, le-ltb, lt-ltb, ne-eqb}
 use lib.IntN.{ℤ}
 use Rattle.cells.specs.Layout.{ELEN, LEN, PE, TMP, WANT}
 use Rattle.cells.specs.View.{at, plus, rd, up}
-use Rattle.packed.specs.Tray.{Taking, counted, emptyTray, ownPart, passedBy, taking, took, tookAll, tookElement, tookElements, tookOwn, tookPart}
+use Rattle.chain.specs.Model.{removed}
+use Rattle.packed.specs.Tray.{Taking, counted, emptyTray, ownPart, passedBy, taking, took, tookAll, tookElement, tookElements, tookOwn, tookPart, tookRow, tookWanted, wrapped}
 use Rattle.packed.specs.declared.Part.{Part}
 use Rattle.packed.specs.declared.Tray.{Tray}
 
-module _ (quota r : ℕ) (t : Tray) (c : ℕ) (hc : c ≡ plus (t .cnt) 1) where
-  pub count-full : t .cnt ≡ quota → record { cnt = c; reads = r; mark = r } ≡ counted quota r t
+-- a small sum is itself as a word
+pub wrapped-sum : (a b : ℕ) → a + b < 2 ^ 63 → wrapped a b ≡ a + b
+unfolding wrapped
+wrapped-sum a b h = mod-eq-of-lt {m = 2 ^ 64} (omega arith)
+
+module _ (quota r : ℕ) (t : Tray) where
+  pub count-full : t .cnt ≡ quota → record { cnt = t .cnt + 1; reads = r; mark = r } ≡ counted quota r t
   unfolding counted
-  count-full h = rw (eq-eqb (t .cnt) quota h, hc)
+  count-full h = rw (eq-eqb (t .cnt) quota h)
 
-  pub count-free : t .cnt ≢ quota → record { cnt = c; reads = r; mark = t .mark } ≡ counted quota r t
+  pub count-free : t .cnt ≢ quota → record { cnt = t .cnt + 1; reads = r; mark = t .mark } ≡ counted quota r t
   unfolding counted
-  count-free h = rw (ne-eqb (t .cnt) quota h, hc)
+  count-free h = rw (ne-eqb (t .cnt) quota h)
 
-pub pass-step : (t : Tray) (k : ℕ) → k ≡ plus (t .reads) 1 → record { cnt = t .cnt; reads = k; mark = t .mark } ≡ passedBy t
-unfolding passedBy
-pass-step t k h = rw h
+module _ (n x quota reads : ℕ) (s : List ℤ) (t : Tray) (a b : List ℤ) (r : Tray) (ha : a ≡ up n TMP s (t .cnt) x) (hb : b ≡ removed n a x) (hr : r ≡ counted quota reads t) where
+  pub row-step : taking b r ≡ tookRow n quota x reads (taking s t)
+  unfolding tookRow
+  row-step = rw (← ha, ← hb, ← hr)
 
-module _ (n x quota : ℕ) (s : List ℤ) (t : Tray) (w : ℕ) (hw : w ≡ rd n WANT s x) where
-  pub take-yes : (a b : List ℤ) (k : ℕ) (r : Tray) → a ≡ up n WANT s x 0 → b ≡ up n TMP a (t .cnt) x → k ≡ plus (t .reads) 1 → r ≡ counted quota k t → 0 < w
-      → taking b r ≡ took n quota x (taking s t)
-  unfolding took
-  take-yes a b k r ha hb hk hr h = rw (← hw, lt-ltb 0 w h, hb, ha, hr, hk)
+module _ (n x quota : ℕ) (s : List ℤ) (t : Tray) (w : ℕ) (hw : w ≡ rd n WANT s x) (k : ℕ) (hk : k ≡ (t .reads + 1) % 2 ^ 64) where
+  pub take-row : (a : List ℤ) (y : Taking) → a ≡ up n WANT s x 0 → y ≡ tookRow n quota x k (taking a t) → 0 < w → t .cnt < n → y ≡ took n quota x (taking s t)
+  unfolding took tookWanted wrapped
+  take-row a y ha hy h c = rw (← hw, lt-ltb 0 w h, ← ha, lt-ltb (t .cnt) n c, ← hk) hy
 
-  pub take-no : (r : Tray) → r ≡ passedBy t → w ≤ 0 → taking s r ≡ took n quota x (taking s t)
-  unfolding took
-  take-no r hr h = rw (← hw, le-ltb 0 w h, hr)
+  pub take-full : (a : List ℤ) → a ≡ up n WANT s x 0 → 0 < w → n ≤ t .cnt → taking a (record { cnt = t .cnt; reads = k; mark = t .mark }) ≡ took n quota x (taking s t)
+  unfolding took tookWanted passedBy wrapped
+  take-full a ha h c = rw (← hw, lt-ltb 0 w h, ← ha, le-ltb (t .cnt) n c, hk)
+
+  pub take-no : w ≤ 0 → taking s (record { cnt = t .cnt; reads = k; mark = t .mark }) ≡ took n quota x (taking s t)
+  unfolding took passedBy wrapped
+  take-no h = rw (← hw, le-ltb 0 w h, hk)
 
 pub take-step : (n quota : ℕ) (l : List ℤ) (q x : ℕ) (m y : Taking) → x ≡ at l q → y ≡ took n quota x m → y ≡ took n quota (at l q) m
 take-step n quota l q x m y hx hy = rw (← hx) hy
 
-pub element-step : (n quota : ℕ) (l : List ℤ) (q : ℕ) (s : List ℤ) (t : Tray) (e p k : ℕ) (u : Tray) (y : Taking)
-    → e ≡ at l q → p ≡ rd n PE s e → k ≡ rd n LEN s e → u ≡ passedBy t → y ≡ tookPart n quota l p k (taking s u) → y ≡ tookElement n quota l q (taking s t)
-unfolding tookElement
-element-step n quota l q s t e p k u y he hp hk hu hy = rw (← he, ← hp, ← hk, ← hu) hy
+pub element-step : (n quota : ℕ) (l : List ℤ) (q : ℕ) (s : List ℤ) (t : Tray) (e p k r : ℕ) (y : Taking)
+    → e ≡ at l q → p ≡ rd n PE s e → k ≡ rd n LEN s e → r ≡ (t .reads + 1) % 2 ^ 64 → y ≡ tookPart n quota l p k (taking s (record { cnt = t .cnt; reads = r; mark = t .mark }))
+    → y ≡ tookElement n quota l q (taking s t)
+unfolding tookElement passedBy wrapped
+element-step n quota l q s t e p k r y he hp hk hr hy = rw (← he, ← hp, ← hk, ← hr) hy
 
 pub own-step : (n : ℕ) (s : List ℤ) (me p k len from rest : ℕ) → p ≡ rd n PE s me → k ≡ rd n ELEN s me → len ≡ rd n LEN s me → from ≡ plus p k → rest ≡ len - k
     → record { from = from; len = rest } ≡ ownPart n s me

@@ -5,8 +5,10 @@ use mathlib.Core.Bool.{cond}
 use mathlib.Core.List.{List}
 use lib.Dec.{ltb}
 use lib.IntN.{ℤ}
+use lib.ListN.{length}
 use Rattle.plain.specs.Turns.{times}
 use Rattle.cells.specs.Layout.{LEN, ORD, PE, TMP}
+use Rattle.cells.specs.Rows.{clipped}
 use Rattle.cells.specs.View.{at, plus, rd, up, wr}
 use Rattle.packed.specs.Places.{due, places}
 
@@ -54,13 +56,9 @@ packedAll n base lim cnt l s = movedNew n lim cnt (packedLow n base l s)
 
 -- ---- a list laid at a place
 
--- x in cell e, if it is a row: the list space holds nothing else
-unfoldable pub laidOne : ℕ → ℕ → ℕ → List ℤ → List ℤ
-laidOne n e x l = cond (ltb x n) (wr l e x) l
-
--- the first k numbers of the scratch table, copied to e on
+-- the first k numbers of the scratch table, copied to e on, as far as there are cells
 unfoldable pub laid : ℕ → List ℤ → ℕ → ℕ → List ℤ → List ℤ
-laid n s e k l = times k (λ t. laidOne n (e + t) (rd n TMP s t)) l
+laid n s e k l = times (clipped (length l) e k) (λ t m. wr m (e + t) (rd n TMP s t)) l
 
 -- object j, with k numbers from e on, is the last of the order
 unfoldable pub entered : ℕ → List ℤ → ℕ → ℕ → ℕ → ℕ → List ℤ

@@ -1,6 +1,6 @@
 -- A gather's reading, as the code does it: numbers go from lists into the scratch table, nothing moving.
 -- Assumes nothing.
-use Prim.Native.Nat.{_+_, _-_, _<_, _^_, ℕ}
+use Prim.Native.Nat.{_%_, _+_, _-_, _<_, _^_, _≤_, ℕ}
 use mathlib.Core.Bool.{cond}
 use mathlib.Core.List.{List}
 use lib.Dec.{eqb, ltb}
@@ -10,13 +10,18 @@ use Rattle.plain.specs.Turns.{times}
 use Rattle.cells.specs.Layout.{ELEN, LEN, PE, TMP, WANT}
 use Rattle.cells.specs.Rows.{clipped}
 use Rattle.cells.specs.View.{at, plus, rd, up}
+use Rattle.chain.specs.Model.{removed}
 use Rattle.packed.specs.declared.Part.{Part}
 use Rattle.packed.specs.declared.Tray.{Tray}
 
-pub record Small (t : Tray) : Type 0 where
-  pub cnt : t .cnt < 2 ^ 63
-  pub reads : t .reads < 2 ^ 63
-  pub mark : t .mark < 2 ^ 63
+-- the scratch table begins with k rows
+pub record Tabled (n : ℕ) (s : List ℤ) (k : ℕ) : Type 0 where
+  pub few : k ≤ n
+  pub rows : (t : ℕ) → t < k → rd n TMP s t < n
+
+-- the sum, as a machine's word has it
+unfoldable pub wrapped : ℕ → ℕ → ℕ
+wrapped a b = (a + b) % 2 ^ 64
 
 -- the scratch, and the numbers beside it
 pub record Taking : Type 0 where
@@ -28,18 +33,25 @@ taking s t = record { mem = s; tray = t }
 
 -- an entry is collected, with which r are read: the one that finds no place is marked
 unfoldable pub counted : ℕ → ℕ → Tray → Tray
-counted quota r t = record { cnt = plus (t .cnt) 1; reads = r; mark = cond (eqb (t .cnt) quota) r (t .mark) }
+counted quota r t = record { cnt = t .cnt + 1; reads = r; mark = cond (eqb (t .cnt) quota) r (t .mark) }
 
 -- an entry is read and not collected
 unfoldable pub passedBy : Tray → Tray
-passedBy t = record { cnt = t .cnt; reads = plus (t .reads) 1; mark = t .mark }
+passedBy t = record { cnt = t .cnt; reads = wrapped (t .reads) 1; mark = t .mark }
 
--- x is read: it goes into the table if it is wanted
+-- x, with which r are read, goes into the table, and leaves its degree list
+unfoldable pub tookRow : ℕ → ℕ → ℕ → ℕ → Taking → Taking
+tookRow n quota x r m = taking (removed n (up n TMP (m .mem) (m .tray .cnt) x) x) (counted quota r (m .tray))
+
+-- x is wanted: it is collected, if the table has a cell for it
+unfoldable pub tookWanted : ℕ → ℕ → ℕ → Taking → Taking
+tookWanted n quota x m =
+    cond (ltb (m .tray .cnt) n) (tookRow n quota x (wrapped (m .tray .reads) 1) m) (taking (m .mem) (passedBy (m .tray)))
+
+-- x is read: it is wanted no more if it was
 unfoldable pub took : ℕ → ℕ → ℕ → Taking → Taking
 took n quota x m =
-    cond (ltb 0 (rd n WANT (m .mem) x))
-    (taking (up n TMP (up n WANT (m .mem) x 0) (m .tray .cnt) x) (counted quota (plus (m .tray .reads) 1) (m .tray)))
-    (taking (m .mem) (passedBy (m .tray)))
+    cond (ltb 0 (rd n WANT (m .mem) x)) (tookWanted n quota x (taking (up n WANT (m .mem) x 0) (m .tray))) (taking (m .mem) (passedBy (m .tray)))
 
 -- the numbers of a part of the list space, as far as it is there
 unfoldable pub tookPart : ℕ → ℕ → List ℤ → ℕ → ℕ → Taking → Taking

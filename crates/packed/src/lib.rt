@@ -1,14 +1,13 @@
-// Lists packed into one lent space, their collection to the space's beginning, and the list of a new element gathered from others.
-// Nothing here asks for a memory that makes sense, but for rows in the list space: a contract is the function's own model, and the laws of `proofs/` say what it does to the lists.
+// Lists packed into one lent space, their collection to the space's beginning, and the list of a new element gathered from others, whose rows leave their degree lists.
+// Nothing here asks for a memory that makes sense, but for rows in the list space and in the scratch table: a contract is the function's own model, and the laws of `proofs/` say what it does to the lists.
 ghost use mathlib.Core.Path.{_≡_};
 ghost use Prim.Native.Nat.{_<_, _^_};
 ghost use lib.ListN.{length};
-ghost use Rattle.cells.specs.View.{Room, at, rd};
+ghost use Rattle.cells.specs.View.{Room, at};
 ghost use Rattle.cells.specs.Rows.{Rows};
-ghost use Rattle.cells.specs.Layout.{TMP};
 ghost use Rattle.packed.specs.Places.{places, due};
-ghost use Rattle.packed.specs.Model.{copied, heap, movedOne, movedLow, movedNext, movedNew, packedLow, packedAll, laidOne, laid, entered};
-ghost use Rattle.packed.specs.Tray.{Small, taking, counted, passedBy, took, tookPart, tookElement, tookElements, ownPart, tookAll};
+ghost use Rattle.packed.specs.Model.{copied, heap, movedOne, movedLow, movedNext, movedNew, packedLow, packedAll, laid, entered};
+ghost use Rattle.packed.specs.Tray.{Tabled, taking, counted, tookRow, took, tookPart, tookElement, tookElements, ownPart, tookAll};
 ghost use Rattle.packed.specs.Gather.{droppedAt, droppedPart, droppedAll, addedLength, allLengths, cleared, collectedRest, madeRoom, outside, Brief, summed, gatheredOutside, inside, gatheredInside};
 
 // The end of the lists that go by number, and the end of all.
@@ -129,30 +128,21 @@ pub fn collect(
 
 // ---- a list laid at a place
 
-// Cell `e` of the lists becomes number `t` of the scratch table, if that is a row.
-pub fn lay_one(lists: &mut [i64], s: &[i64], n: usize, t: usize, e: usize)
-    requires { ⌜ Room n (now s) × Rows n (now lists) ⌝ }
-    ensures { λ _. ⌜ (now (lists .exit) ≡ laidOne n e (rd n TMP (now (s .entry)) t) (now (lists .entry))) × Rows n (now (lists .exit)) ⌝ }
-{
-    let x = cells::tab(s, n, cells::TMP, t);
-    if x < n {
-        cells::poke_row(lists, n, e, x);
-    }
-}
-
 // The first `k` numbers of the scratch table, copied to `e` on.
 pub fn lay(lists: &mut [i64], s: &[i64], n: usize, e: usize, k: usize)
-    requires { ⌜ Room n (now s) × Rows n (now lists) × (e < 2 ^ 63) × (k < 2 ^ 63) ⌝ }
+    requires { ⌜ Room n (now s) × Rows n (now lists) × (e < 2 ^ 63) × Tabled n (now s) k ⌝ }
     ensures { λ _. ⌜ (now (lists .exit) ≡ laid n (now (s .entry)) e k (now (lists .entry))) × Rows n (now (lists .exit)) ⌝ }
 {
-    for t in 0..k {
-        lay_one(lists, s, n, t, e + t);
+    let m = cells::clip(lists.len(), e, k);
+    for t in 0..m {
+        let x = cells::look(s, n, cells::TMP, t);
+        cells::put_row(lists, n, e + t, x);
     }
 }
 
 // Object `j` gets the first `k` numbers of the scratch table as its list, at `e`, and is the last of the order.
 pub fn enter(lists: &mut [i64], s: &mut [i64], n: usize, cnt: usize, j: usize, e: usize, k: usize)
-    requires { ⌜ Room n (now s) × Rows n (now lists) × (e < 2 ^ 63) × (k < 2 ^ 63) × (j < n) ⌝ }
+    requires { ⌜ Room n (now s) × Rows n (now lists) × (e < 2 ^ 63) × Tabled n (now s) k × (j < n) ⌝ }
     ensures { λ _. ⌜ (now (lists .exit) ≡ laid n (now (s .entry)) e k (now (lists .entry))) × (now (s .exit) ≡ entered n (now (s .entry)) cnt j e k) × Room n (now (s .exit)) × Rows n (now (lists .exit)) ⌝ }
 {
     lay(lists, s, n, e, k);
@@ -172,58 +162,53 @@ pub struct Tray {
 
 // An entry is collected, with which `reads` are read.
 pub fn count(quota: usize, reads: usize, t: Tray) -> Tray
-    requires { ⌜ Small t × (reads < 2 ^ 63) ⌝ }
-    ensures { λ r. ⌜ (r ≡ counted quota reads t) × Small r ⌝ }
+    requires { ⌜ t .cnt < 2 ^ 63 ⌝ }
+    ensures { λ r. ⌜ r ≡ counted quota reads t ⌝ }
 {
-    let c = cells::plus(t.cnt, 1);
-    if t.cnt == quota {
-        Tray {
-            cnt: c,
-            reads: reads,
-            mark: reads,
-        }
-    } else {
-        Tray {
-            cnt: c,
-            reads: reads,
-            mark: t.mark,
-        }
-    }
-}
-
-// One entry more is read, and not collected.
-pub fn pass(t: Tray) -> Tray
-    requires { ⌜ Small t ⌝ }
-    ensures { λ r. ⌜ (r ≡ passedBy t) × Small r ⌝ }
-{
-    let k = cells::plus(t.reads, 1);
+    let cnt = t.cnt + 1;
+    let mark = if t.cnt == quota { reads } else { t.mark };
     Tray {
-        cnt: t.cnt,
-        reads: k,
-        mark: t.mark,
+        cnt: cnt,
+        reads: reads,
+        mark: mark,
     }
 }
 
-// Reads the entry `x`: it goes into the table if it is wanted.
+// The entry `x`, with which `reads` are read, goes into the table, and leaves its degree list.
+pub fn take_row(s: &mut [i64], n: usize, x: usize, quota: usize, reads: usize, t: Tray) -> Tray
+    requires { ⌜ Room n (now s) × (x < n) × (t .cnt < n) × Tabled n (now s) (t .cnt) ⌝ }
+    ensures { λ r. ⌜ (taking (now (s .exit)) r ≡ tookRow n quota x reads (taking (now (s .entry)) t)) × Room n (now (s .exit)) × Tabled n (now (s .exit)) (r .cnt) ⌝ }
+{
+    cells::note(s, n, cells::TMP, t.cnt, x);
+    chain::take_out(s, n, x);
+    count(quota, reads, t)
+}
+
+// Reads the entry `x`: if it is wanted, it is collected, as long as the table has a cell for it. The wish is cleared before the table's end is tested, so that
+// no compiler makes one slower test of two.
 pub fn take_one(s: &mut [i64], n: usize, x: usize, quota: usize, t: Tray) -> Tray
-    requires { ⌜ Room n (now s) × (x < n) × Small t ⌝ }
-    ensures { λ r. ⌜ (taking (now (s .exit)) r ≡ took n quota x (taking (now (s .entry)) t)) × Room n (now (s .exit)) × Small r ⌝ }
+    requires { ⌜ Room n (now s) × (x < n) × Tabled n (now s) (t .cnt) ⌝ }
+    ensures { λ r. ⌜ (taking (now (s .exit)) r ≡ took n quota x (taking (now (s .entry)) t)) × Room n (now (s .exit)) × Tabled n (now (s .exit)) (r .cnt) ⌝ }
 {
     let w = cells::get(s, n, cells::WANT, x);
+    let reads = std::num::wrapping_add_usize(t.reads, 1);
     if 0 < w {
         cells::set(s, n, cells::WANT, x, 0);
-        cells::put(s, n, cells::TMP, t.cnt, x);
-        let k = cells::plus(t.reads, 1);
-        count(quota, k, t)
-    } else {
-        pass(t)
+        if t.cnt < n {
+            return take_row(s, n, x, quota, reads, t);
+        }
+    }
+    Tray {
+        cnt: t.cnt,
+        reads: reads,
+        mark: t.mark,
     }
 }
 
 // The same of the number in cell `q` of the lists.
 pub fn take_at(lists: &[i64], s: &mut [i64], n: usize, q: usize, quota: usize, t: Tray) -> Tray
-    requires { ⌜ Room n (now s) × Rows n (now lists) × (q < length (now lists)) × Small t ⌝ }
-    ensures { λ r. ⌜ (taking (now (s .exit)) r ≡ took n quota (at (now (lists .entry)) q) (taking (now (s .entry)) t)) × Room n (now (s .exit)) × Small r ⌝ }
+    requires { ⌜ Room n (now s) × Rows n (now lists) × (q < length (now lists)) × Tabled n (now s) (t .cnt) ⌝ }
+    ensures { λ r. ⌜ (taking (now (s .exit)) r ≡ took n quota (at (now (lists .entry)) q) (taking (now (s .entry)) t)) × Room n (now (s .exit)) × Tabled n (now (s .exit)) (r .cnt) ⌝ }
 {
     let x = cells::row(lists, n, q);
     take_one(s, n, x, quota, t)
@@ -239,8 +224,8 @@ pub fn take_part(
     quota: usize,
     start: Tray,
 ) -> Tray
-    requires { ⌜ Room n (now s) × Rows n (now lists) × (p < 2 ^ 63) × (k < 2 ^ 63) × Small start ⌝ }
-    ensures { λ r. ⌜ (taking (now (s .exit)) r ≡ tookPart n quota (now (lists .entry)) p k (taking (now (s .entry)) start)) × Room n (now (s .exit)) × Small r ⌝ }
+    requires { ⌜ Room n (now s) × Rows n (now lists) × (p < 2 ^ 63) × (k < 2 ^ 63) × Tabled n (now s) (start .cnt) ⌝ }
+    ensures { λ r. ⌜ (taking (now (s .exit)) r ≡ tookPart n quota (now (lists .entry)) p k (taking (now (s .entry)) start)) × Room n (now (s .exit)) × Tabled n (now (s .exit)) (r .cnt) ⌝ }
 {
     let m = cells::clip(lists.len(), p, k);
     let mut t = start;
@@ -252,14 +237,26 @@ pub fn take_part(
 
 // Reads the number of an element in cell `q`, and then the element's own list.
 pub fn take_element(lists: &[i64], s: &mut [i64], n: usize, q: usize, quota: usize, t: Tray) -> Tray
-    requires { ⌜ Room n (now s) × Rows n (now lists) × (q < length (now lists)) × Small t ⌝ }
-    ensures { λ r. ⌜ (taking (now (s .exit)) r ≡ tookElement n quota (now (lists .entry)) q (taking (now (s .entry)) t)) × Room n (now (s .exit)) × Small r ⌝ }
+    requires { ⌜ Room n (now s) × Rows n (now lists) × (q < length (now lists)) × Tabled n (now s) (t .cnt) ⌝ }
+    ensures { λ r. ⌜ (taking (now (s .exit)) r ≡ tookElement n quota (now (lists .entry)) q (taking (now (s .entry)) t)) × Room n (now (s .exit)) × Tabled n (now (s .exit)) (r .cnt) ⌝ }
 {
     let e = cells::row(lists, n, q);
     let p = cells::get(s, n, cells::PE, e);
     let k = cells::get(s, n, cells::LEN, e);
-    let u = pass(t);
-    take_part(lists, s, n, p, k, quota, u)
+    let reads = std::num::wrapping_add_usize(t.reads, 1);
+    take_part(
+        lists,
+        s,
+        n,
+        p,
+        k,
+        quota,
+        Tray {
+            cnt: t.cnt,
+            reads: reads,
+            mark: t.mark,
+        },
+    )
 }
 
 // The same of each of the `k` numbers from `p` on.
@@ -272,8 +269,8 @@ pub fn take_elements(
     quota: usize,
     start: Tray,
 ) -> Tray
-    requires { ⌜ Room n (now s) × Rows n (now lists) × (p < 2 ^ 63) × (k < 2 ^ 63) × Small start ⌝ }
-    ensures { λ r. ⌜ (taking (now (s .exit)) r ≡ tookElements n quota (now (lists .entry)) p k (taking (now (s .entry)) start)) × Room n (now (s .exit)) × Small r ⌝ }
+    requires { ⌜ Room n (now s) × Rows n (now lists) × (p < 2 ^ 63) × (k < 2 ^ 63) × Tabled n (now s) (start .cnt) ⌝ }
+    ensures { λ r. ⌜ (taking (now (s .exit)) r ≡ tookElements n quota (now (lists .entry)) p k (taking (now (s .entry)) start)) × Room n (now (s .exit)) × Tabled n (now (s .exit)) (r .cnt) ⌝ }
 {
     let m = cells::clip(lists.len(), p, k);
     let mut t = start;
@@ -308,7 +305,7 @@ pub fn own_part(s: &[i64], n: usize, me: usize) -> Part
 // Reads the lists of the elements of `me` in order, and then its own variables.
 pub fn take_all(lists: &[i64], s: &mut [i64], n: usize, me: usize, quota: usize) -> Tray
     requires { ⌜ Room n (now s) × Rows n (now lists) × (me < n) ⌝ }
-    ensures { λ r. ⌜ (taking (now (s .exit)) r ≡ tookAll n quota (now (lists .entry)) (now (s .entry)) me) × Room n (now (s .exit)) × Small r ⌝ }
+    ensures { λ r. ⌜ (taking (now (s .exit)) r ≡ tookAll n quota (now (lists .entry)) (now (s .entry)) me) × Room n (now (s .exit)) × Tabled n (now (s .exit)) (r .cnt) × (r .cnt < 2 ^ 63) ⌝ }
 {
     let p = cells::get(s, n, cells::PE, me);
     let k = cells::get(s, n, cells::ELEN, me);
@@ -445,7 +442,7 @@ pub struct Made {
 
 // The numbers that a gather leaves.
 pub fn summed(ends: Ends, t: Tray, made: usize) -> Made
-    requires { ⌜ Small t × (ends .end < 2 ^ 63) × (made < 2 ^ 63) ⌝ }
+    requires { ⌜ (t .cnt < 2 ^ 63) × (ends .end < 2 ^ 63) × (made < 2 ^ 63) ⌝ }
     ensures { λ r. ⌜ (r ≡ summed ends t made) × Brief r ⌝ }
 {
     let free = cells::plus(ends.end, t.cnt);

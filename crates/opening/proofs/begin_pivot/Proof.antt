@@ -6,16 +6,12 @@ use Rattle.opening.proofs.begin_pivot.Reads as reads
 use Rattle.opening.proofs.begin_pivot.Lts as lts
 use Rattle.opening.proofs.leave.Reads as leave-reads
 use Rattle.opening.proofs.gather.Reads as gather-reads
-use Rattle.opening.proofs.leave_all.Reads as leave-all-reads
 
 leave-requires : tie.Need-leave-requires
 leave-requires c κs = search needs
 
 gather-requires : tie.Need-gather-requires
 gather-requires c κs = search needs
-
-leave-all-requires : tie.Need-leave-all-requires
-leave-all-requires c κs = search needs
 
 same-length : tie.Need-same-length
 same-length c = search needs
@@ -27,4 +23,4 @@ returns : tie.Need-returns
 returns c = search (needs, pivot-step)
 
 pub begin-pivot-spec : {M : Type 1} → statement M
-begin-pivot-spec = tie.close (tie.spec leave-requires gather-requires leave-all-requires same-length same-length-2 returns)
+begin-pivot-spec = tie.close (tie.spec leave-requires gather-requires same-length same-length-2 returns)

@@ -1,4 +1,5 @@
 use Rattle.packed.proofs.Gathers.{inside-step}
+use Rattle.packed.proofs.Tables.{tabled-none}
 use borrow.Author.Needs.{needs}
 use Rattle.packed.proofs.gather_in_place.Statement.{statement}
 use Rattle.packed.proofs.gather_in_place.Tie as tie
@@ -16,7 +17,7 @@ get-requires-2 : tie.Need-get-requires-2
 get-requires-2 c κs = search needs
 
 take-part-requires : tie.Need-take-part-requires
-take-part-requires c κs = search needs
+take-part-requires c κs = search (needs, tabled-none)
 
 lay-requires : tie.Need-lay-requires
 lay-requires c κs = search needs

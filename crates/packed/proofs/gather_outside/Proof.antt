@@ -1,4 +1,5 @@
 use Rattle.packed.proofs.Gathers.{outside-step}
+use Rattle.packed.proofs.Tables.{tabled-room}
 use borrow.Author.Needs.{needs}
 use Rattle.packed.proofs.gather_outside.Statement.{statement}
 use Rattle.packed.proofs.gather_outside.Tie as tie
@@ -20,7 +21,7 @@ make-room-requires : tie.Need-make-room-requires
 make-room-requires c κs = search needs
 
 enter-requires : tie.Need-enter-requires
-enter-requires c κs = search needs
+enter-requires c κs = (search needs, search needs, search needs, tabled-room _ _ _ _ _ _ _ _ _ _ _ _ (c .before .before .before .before .before .before .before .before .take-all .ensures .2) (c .before .before .before .before .make-room .ensures .0), search needs)
 
 summed-requires : tie.Need-summed-requires
 summed-requires c κs = search needs

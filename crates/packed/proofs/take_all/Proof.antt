@@ -1,5 +1,7 @@
+use Rattle.packed.proofs.Tables.{tabled-none}
 use Rattle.packed.proofs.Trays.{all-step}
 use borrow.Author.Needs.{needs}
+use native.Mathlib.Omega.{arith}
 use Rattle.packed.proofs.take_all.Statement.{statement}
 use Rattle.packed.proofs.take_all.Tie as tie
 use Rattle.packed.proofs.take_all.Reads as reads
@@ -16,7 +18,7 @@ get-requires-2 : tie.Need-get-requires-2
 get-requires-2 c κs = search needs
 
 take-elements-requires : tie.Need-take-elements-requires
-take-elements-requires c κs = search needs
+take-elements-requires c κs = search (needs, tabled-none)
 
 own-part-requires : tie.Need-own-part-requires
 own-part-requires c κs = search needs
@@ -28,7 +30,7 @@ same-length : tie.Need-same-length
 same-length c = search needs
 
 returns : tie.Need-returns
-returns c = search (needs, all-step)
+returns c = (search (needs, all-step), search needs, search needs, omega (arith, c .before .take-part .ensures .2 .few, c .before .before .before .before .before .before .before .before .before .before .before .before .pre .0 .room, c .before .before .before .before .before .before .before .before .before .before .before .before .good))
 
 pub take-all-spec : {M : Type 1} → statement M
 take-all-spec =

@@ -6,7 +6,7 @@ use Rattle.packed.proofs.take_element.Reads as reads
 use Rattle.packed.proofs.take_element.Lts as lts
 use Rattle.cells.proofs.row.Reads as row-reads
 use Rattle.cells.proofs.get.Reads as get-reads
-use Rattle.packed.proofs.pass.Reads as pass-reads
+use Rattle.std.proofs.num.wrapping_add_usize.Reads as wrapping-add-usize-reads
 use Rattle.packed.proofs.take_part.Reads as take-part-reads
 
 row-requires : tie.Need-row-requires
@@ -18,8 +18,8 @@ get-requires c κs = search needs
 get-requires-2 : tie.Need-get-requires-2
 get-requires-2 c κs = search needs
 
-pass-requires : tie.Need-pass-requires
-pass-requires c κs = search needs
+wrapping-add-usize-requires : tie.Need-wrapping-add-usize-requires
+wrapping-add-usize-requires c κs = search needs
 
 take-part-requires : tie.Need-take-part-requires
 take-part-requires c κs = search needs
@@ -37,7 +37,7 @@ take-element-spec =
     row-requires
     get-requires
     get-requires-2
-    pass-requires
+    wrapping-add-usize-requires
     take-part-requires
     same-length
     returns)

@@ -1,4 +1,4 @@
-use Rattle.packed.specs.Tray.{Small, taking, tookElement, tookElements}
+use Rattle.packed.specs.Tray.{Tabled, taking, tookElement, tookElements}
 use Rattle.cells.specs.View.{Room}
 use Prim.Native.Nat.{_+_, _<_, _≤_, _-_, _^_}
 use Rattle.plain.proofs.Turns.{begin, turn}
@@ -15,7 +15,7 @@ use Rattle.cells.proofs.clip.Reads as clip-reads
 use Rattle.packed.proofs.take_element.Reads as take-element-reads
 
 abbrev Inv-loop : tie.InvT-loop
-Inv-loop lists s₀ n p k quota m t₀ i₀ s t i = Turned (λ j. tookElement n quota lists (p + j)) (taking s₀ t₀) i (taking s t) × (length s ≡ length s₀) × Room n s × Small t × (i ≤ m)
+Inv-loop lists s₀ n p k quota m t₀ i₀ s t i = Turned (λ j. tookElement n quota lists (p + j)) (taking s₀ t₀) i (taking s t) × (length s ≡ length s₀) × Room n s × Tabled n s (t .cnt) × (i ≤ m)
 
 abbrev μ-loop : tie.MeasureT-loop
 μ-loop lists s₀ n p k quota m t₀ i₀ s t i = m - i

@@ -1,0 +1,92 @@
+-- The scratch table of a gather: its first numbers are rows, whatever the memory holds elsewhere.
+-- Assumes nothing.
+use Prim.Native.Nat.{_+_, _<_, ℕ}
+use native.Mathlib.Omega.{arith}
+use mathlib.Core.List.{List}
+use mathlib.Core.Logic.{_≢_, _⊎_, inl, inr}
+use mathlib.Core.Path.{_∙_, _≡_, ap, refl}
+use borrow.Author.Tests.{lt-ltb}
+use lib.Dec.{ltb}
+use lib.IntN.{ℤ}
+use Rattle.plain.proofs.Logic.{cond-has}
+use Rattle.plain.proofs.Turns.{times-keeps}
+use Rattle.plain.specs.Turns.{times}
+use Rattle.cells.proofs.Laws.{mem, rd-up-field, room-yes}
+use Rattle.cells.proofs.Slices.{same?}
+use Rattle.cells.specs.Layout.{ELEN, LEN, ORD, PE, TMP, WANT}
+use Rattle.cells.specs.View.{Room, at, rd, up}
+use Rattle.chain.proofs.Unlink.{removed-other}
+use Rattle.chain.specs.Model.{removed}
+use Rattle.packed.specs.Gather.{Cleared, cleared, collectedRest, droppedAll, droppedAt, droppedPart, madeRoom}
+use Rattle.packed.specs.Model.{Heap, heap, movedDown, movedLow, movedNew, movedNext, movedOne, packedAll, packedLow}
+use Rattle.packed.specs.Places.{due, places}
+use Rattle.packed.specs.Tray.{Tabled, counted}
+use Rattle.packed.specs.declared.Ends.{Ends}
+use Rattle.packed.specs.declared.Tray.{Tray}
+
+-- the table is empty
+pub tabled-none : (n : ℕ) (s : List ℤ) → Tabled n s 0
+tabled-none n s = record { few = omega arith; rows = λ t h. absurd (omega arith) }
+
+pub tabled-low : (n : ℕ) (s : List ℤ) (k t x : ℕ) → Tabled n s k → x ≡ rd n TMP s t → t < k → x < n
+tabled-low n s k t x h e l = omega (arith, h .rows t l)
+
+-- another memory has the same table
+tabled-same : (n : ℕ) (s r : List ℤ) (k : ℕ) → ((t : ℕ) → rd n TMP r t ≡ rd n TMP s t) → Tabled n s k → Tabled n r k
+tabled-same n s r k e h = record { few = h .few; rows = λ t b. omega (arith, e t, h .rows t b) }
+
+pub tabled-want : (n : ℕ) (s : List ℤ) (x : ℕ) (a : List ℤ) (k : ℕ) → Tabled n s k → a ≡ up n WANT s x 0 → Tabled n a k
+tabled-want n s x a k h e = rw e (tabled-same n s (up n WANT s x 0) k (λ t. simp mem) h)
+
+-- one row more
+pub tabled-row : (n x quota reads : ℕ) (s : List ℤ) (t : Tray) (a b : List ℤ) (r : Tray) → a ≡ up n TMP s (t .cnt) x → b ≡ removed n a x → r ≡ counted quota reads t
+    → Tabled n s (t .cnt) → Room n s → x < n → t .cnt < n → Tabled n b (r .cnt)
+unfolding counted
+tabled-row n x quota reads s t a b r ha hb hr h room hx hc =
+    rw (hb, ha, hr)
+    record {
+      few = omega arith;
+      rows = λ i l. rw (removed-other n (up n TMP s (t .cnt) x) x TMP i refl refl refl) (by i l (same? i (t .cnt)));
+    }
+  where
+    by : (i : ℕ) → i < t .cnt + 1 → (i ≡ t .cnt) ⊎ (i ≢ t .cnt) → rd n TMP (up n TMP s (t .cnt) x) i < n
+    by i l (inl e) = rw e (let z : rd n TMP (up n TMP s (t .cnt) x) (t .cnt) ≡ x = simp (mem, room-yes n s room, lt-ltb (t .cnt) n hc) in omega (arith, z))
+    by i l (inr d) = let z : rd n TMP (up n TMP s (t .cnt) x) i ≡ rd n TMP s i = simp mem in omega (arith, z, h .rows i (omega (arith, d)))
+
+-- ---- room is made beside it
+
+module _ (n i : ℕ) where
+  -- number i of the table is as in s
+  abbrev Kept : List ℤ → List ℤ → Type 0
+  Kept s m = rd n TMP m i ≡ rd n TMP s i
+
+  kept-dropped : (l : List ℤ) (me : ℕ) (s : List ℤ) → Kept s (droppedAll n l me s)
+  unfolding droppedAll droppedPart droppedAt
+  kept-dropped l me s =
+      let k = rd n ELEN s me in
+      rd-up-field n LEN TMP (times k (λ t m. up n LEN m (at l (rd n PE s me + t)) 0) s) me 0 i refl
+      ∙ times-keeps (λ t m. Kept s m) (λ t m. up n LEN m (at l (rd n PE s me + t)) 0) k (λ t m b e. rd-up-field n LEN TMP m (at l (rd n PE s me + t)) 0 i refl ∙ e) k s (omega arith) refl
+
+  kept-one : (top j : ℕ) (m : Heap) → Kept (m .mem) (movedOne n top j m .mem)
+  unfolding movedOne movedDown
+  kept-one top j m = cond-has (λ (y : Heap). Kept (m .mem) (y .mem)) (ltb 0 (due (places n (m .mem)) top j)) (λ e. rd-up-field n PE TMP (m .mem) j (m .end) i refl) (λ e. refl)
+
+  kept-next : (top t : ℕ) (m : Heap) → Kept (m .mem) (movedNext n top t m .mem)
+  unfolding movedNext
+  kept-next top t m = kept-one top (rd n ORD (m .mem) t) m
+
+  kept-packed : (base lim cnt : ℕ) (l s : List ℤ) → Kept s (packedAll n base lim cnt l s .mem)
+  unfolding packedAll packedLow movedLow movedNew
+  kept-packed base lim cnt l s =
+      times-keeps (λ t (m : Heap). Kept s (m .mem)) (movedNext n lim) cnt (λ t m b e. kept-next lim t m ∙ e) cnt (times n (movedOne n base) (heap l s 0)) (omega arith)
+      (times-keeps (λ t (m : Heap). Kept s (m .mem)) (movedOne n base) n (λ t m b e. kept-one base t m ∙ e) n (heap l s 0) (omega arith) refl)
+
+  kept-room : (me base lim cnt mark : ℕ) (l s : List ℤ) → Kept s (madeRoom n me base lim cnt mark l s .mem)
+  unfolding madeRoom collectedRest
+  kept-room me base lim cnt mark l s =
+      cond-has (λ (y : Cleared). Kept s (y .mem)) (ltb 0 mark)
+      (λ e. kept-packed base lim cnt l (droppedAll n l me s) ∙ kept-dropped l me s) (λ e. kept-dropped l me s)
+
+pub tabled-room : (n me base lim cnt mark : ℕ) (l s l₂ s₂ : List ℤ) (e : Ends) (k : ℕ) → Tabled n s k → cleared l₂ s₂ e ≡ madeRoom n me base lim cnt mark l s → Tabled n s₂ k
+tabled-room n me base lim cnt mark l s l₂ s₂ e k h c =
+    tabled-same n s s₂ k (λ t. ap (λ (y : Cleared). rd n TMP (y .mem) t) c ∙ kept-room n t me base lim cnt mark l s) h
