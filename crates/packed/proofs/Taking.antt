@@ -1,4 +1,4 @@
--- A gather's reading: of the numbers that are read, the wanted ones go into the table, each once, and the entry that finds no place is remembered.
+-- A gather's reading: of the numbers that are read, the wanted ones go into the table, each once, and leave their degree lists; the entry that finds no place is remembered.
 -- Assumes nothing.
 use Prim.Native.Nat.{_+_, _<_, _^_, _≤_, suc, zero, ℕ}
 use native.Mathlib.Omega.{arith}

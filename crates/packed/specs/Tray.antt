@@ -1,4 +1,4 @@
--- A gather's reading, as the code does it: numbers go from lists into the scratch table, nothing moving.
+-- A gather's reading, as the code does it: numbers go from lists into the scratch table and out of their degree lists, no list moving.
 -- Assumes nothing.
 use Prim.Native.Nat.{_%_, _+_, _-_, _<_, _^_, _≤_, ℕ}
 use mathlib.Core.Bool.{cond}

@@ -151,7 +151,7 @@ pub fn enter(lists: &mut [i64], s: &mut [i64], n: usize, cnt: usize, j: usize, e
     cells::put(s, n, cells::ORD, cnt, j);
 }
 
-// ---- a gather: numbers go from lists into the scratch table, nothing moving
+// ---- a gather: numbers go from lists into the scratch table and out of their degree lists, no list moving
 
 // The numbers in the table, the entries read, and how many had been read with the entry that found no place (0: each found one).
 pub struct Tray {
