@@ -12,7 +12,7 @@ use Rattle.chain.specs.Model.{relinked, removed}
 use Rattle.packed.specs.Gather.{addedLength, allLengths, collectedRest, droppedAll, droppedAt, droppedPart, gatheredOutside, madeRoom, settled, summed}
 use Rattle.packed.specs.Model.{copied, entered, laid, movedDown, movedLow, movedNew, movedNext, movedOne, packedAll, packedLow}
 use Rattle.packed.specs.Places.{due}
-use Rattle.packed.specs.Tray.{counted, ownPart, passedBy, took, tookAll, tookElement, tookElements, tookOwn, tookPart, tookRow, tookWanted, wrapped}
+use Rattle.packed.specs.Tray.{counted, ownPart, passedBy, took, tookAll, tookElement, tookElements, tookOwn, tookPart, tookRow, wrapped}
 use Rattle.packed.specs.declared.Made.{Made}
 
 -- of each object its place, its length, whether it is wanted, and how many elements its list begins with
@@ -25,9 +25,9 @@ space : List ℤ
 space = map pos (3 ∷ 3 ∷ 1 ∷ 2 ∷ 0 ∷ 3 ∷ 2 ∷ 1 ∷ 0 ∷ 3 ∷ 1 ∷ 3 ∷ [])
 
 numbers : gatheredOutside 4 0 11 11 0 space scratch .made ≡ record { start = 4; count = 2; free = 6; base = 3; made = 1; collected = 1 }
-unfolding gatheredOutside settled madeRoom collectedRest droppedAll droppedPart droppedAt allLengths addedLength summed tookAll tookOwn ownPart tookElements tookElement tookPart took tookWanted tookRow removed relinked counted passedBy wrapped packedAll packedLow movedLow movedNew movedNext movedOne movedDown copied laid entered times clipped plus due at wr rd up place within scratch space
+unfolding gatheredOutside settled madeRoom collectedRest droppedAll droppedPart droppedAt allLengths addedLength summed tookAll tookOwn ownPart tookElements tookElement tookPart took tookRow removed relinked counted passedBy wrapped packedAll packedLow movedLow movedNew movedNext movedOne movedDown copied laid entered times clipped plus due at wr rd up place within scratch space
 numbers = refl
 
 lists : gatheredOutside 4 0 11 11 0 space scratch .lists ≡ map pos (1 ∷ 0 ∷ 1 ∷ 2 ∷ 3 ∷ 2 ∷ 2 ∷ 1 ∷ 0 ∷ 3 ∷ 1 ∷ 3 ∷ [])
-unfolding gatheredOutside settled madeRoom collectedRest droppedAll droppedPart droppedAt allLengths addedLength summed tookAll tookOwn ownPart tookElements tookElement tookPart took tookWanted tookRow removed relinked counted passedBy wrapped packedAll packedLow movedLow movedNew movedNext movedOne movedDown copied laid entered times clipped plus due at wr rd up place within scratch space
+unfolding gatheredOutside settled madeRoom collectedRest droppedAll droppedPart droppedAt allLengths addedLength summed tookAll tookOwn ownPart tookElements tookElement tookPart took tookRow removed relinked counted passedBy wrapped packedAll packedLow movedLow movedNew movedNext movedOne movedDown copied laid entered times clipped plus due at wr rd up place within scratch space
 lists = refl

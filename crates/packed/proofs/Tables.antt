@@ -1,15 +1,19 @@
--- The scratch table of a gather: its first numbers are rows, whatever the memory holds elsewhere.
+-- The scratch table of a gather: its first numbers are rows, and it has a cell for each row that is wanted, whatever the memory holds elsewhere.
 -- Assumes nothing.
-use Prim.Native.Nat.{_+_, _<_, ℕ}
+use Prim.Native.Nat.{_+_, _<_, _≤_, ℕ}
 use native.Mathlib.Omega.{arith}
+use mathlib.Core.Bool.{cond, false}
 use mathlib.Core.List.{List}
 use mathlib.Core.Logic.{_≢_, _⊎_, inl, inr}
 use mathlib.Core.Path.{_∙_, _≡_, ap, refl}
 use borrow.Author.Tests.{lt-ltb}
-use lib.Dec.{ltb}
+use lib.Dec.{eqb, ltb}
 use lib.IntN.{ℤ}
 use Rattle.plain.proofs.Logic.{cond-has}
+use Rattle.plain.proofs.Repeats.{length-countUp}
+use Rattle.plain.proofs.Sums.{total-most}
 use Rattle.plain.proofs.Turns.{times-keeps}
+use Rattle.plain.specs.Lists.{upTo}
 use Rattle.plain.specs.Turns.{times}
 use Rattle.cells.proofs.Laws.{mem, rd-up-field, room-yes}
 use Rattle.cells.proofs.Slices.{same?}
@@ -20,56 +24,104 @@ use Rattle.chain.specs.Model.{removed}
 use Rattle.packed.specs.Gather.{Cleared, cleared, collectedRest, droppedAll, droppedAt, droppedPart, madeRoom}
 use Rattle.packed.specs.Model.{Heap, heap, movedDown, movedLow, movedNew, movedNext, movedOne, packedAll, packedLow}
 use Rattle.packed.specs.Places.{due, places}
-use Rattle.packed.specs.Tray.{Tabled, counted}
+use Rattle.packed.specs.Tray.{Tabled, counted, wanted}
+use Rattle.packed.proofs.Sums.{sum-change, sum-same}
 use Rattle.packed.specs.declared.Ends.{Ends}
 use Rattle.packed.specs.declared.Tray.{Tray}
 
--- the table is empty
+-- ---- the rows that are wanted
+
+-- 1 if row i is wanted, else 0
+abbrev wish : ℕ → List ℤ → ℕ → ℕ
+wish n s i = cond (ltb 0 (rd n WANT s i)) 1 0
+
+wanted-most : (n : ℕ) (s : List ℤ) → wanted n s ≤ n
+unfolding wanted
+wanted-most n s =
+    omega (arith, length-countUp 0 n, total-most (wish n s) 1 (upTo n) (λ i m. cond-has (λ (y : ℕ). y ≤ 1) (ltb 0 (rd n WANT s i)) (λ e. omega arith) (λ e. omega arith)))
+
+wanted-same : (n : ℕ) (s r : List ℤ) → ((i : ℕ) → rd n WANT r i ≡ rd n WANT s i) → wanted n r ≡ wanted n s
+unfolding wanted
+wanted-same n s r e = sum-same n (wish n s) (wish n r) (λ i b. rw (e i))
+
+-- one of them is wanted no more
+wanted-less : (n : ℕ) (s : List ℤ) (x : ℕ) → Room n s → x < n → 0 < rd n WANT s x → wanted n (up n WANT s x 0) + 1 ≡ wanted n s
+unfolding wanted
+wanted-less n s x room hx w =
+    let before : wish n s x ≡ 1 = rw (lt-ltb 0 (rd n WANT s x) w) in
+    let none : rd n WANT (up n WANT s x 0) x ≡ 0 = simp (mem, room-yes n s room, lt-ltb x n hx) in
+    let after : wish n (up n WANT s x 0) x ≡ 0 = rw none in
+    omega (
+      arith,
+      before,
+      after,
+      sum-change n (wish n s) (wish n (up n WANT s x 0)) x hx (λ i d. let z : rd n WANT (up n WANT s x 0) i ≡ rd n WANT s i = simp mem in rw z),
+    )
+
+-- ---- the table
+
+-- it is empty
 pub tabled-none : (n : ℕ) (s : List ℤ) → Tabled n s 0
-tabled-none n s = record { few = omega arith; rows = λ t h. absurd (omega arith) }
+tabled-none n s = record { spare = omega (arith, wanted-most n s); rows = λ t h. absurd (omega arith) }
+
+pub tabled-few : (n : ℕ) (s : List ℤ) (k : ℕ) → Tabled n s k → k ≤ n
+tabled-few n s k h = omega (arith, h .spare)
 
 pub tabled-low : (n : ℕ) (s : List ℤ) (k t x : ℕ) → Tabled n s k → x ≡ rd n TMP s t → t < k → x < n
 tabled-low n s k t x h e l = omega (arith, h .rows t l)
 
--- another memory has the same table
-tabled-same : (n : ℕ) (s r : List ℤ) (k : ℕ) → ((t : ℕ) → rd n TMP r t ≡ rd n TMP s t) → Tabled n s k → Tabled n r k
-tabled-same n s r k e h = record { few = h .few; rows = λ t b. omega (arith, e t, h .rows t b) }
+-- another memory has the same table, and wants no more rows
+tabled-same : (n : ℕ) (s r : List ℤ) (k : ℕ) → ((t : ℕ) → rd n TMP r t ≡ rd n TMP s t) → wanted n r ≤ wanted n s → Tabled n s k → Tabled n r k
+tabled-same n s r k e w h = record { spare = omega (arith, h .spare); rows = λ t b. omega (arith, e t, h .rows t b) }
 
-pub tabled-want : (n : ℕ) (s : List ℤ) (x : ℕ) (a : List ℤ) (k : ℕ) → Tabled n s k → a ≡ up n WANT s x 0 → Tabled n a k
-tabled-want n s x a k h e = rw e (tabled-same n s (up n WANT s x 0) k (λ t. simp mem) h)
+-- a row that was wanted is so no more: the table has a cell for it
+module _ (n : ℕ) (s : List ℤ) (x w : ℕ) (a : List ℤ) (k : ℕ) (h : Tabled n s k) (room : Room n s) (hx : x < n) (hw : w ≡ rd n WANT s x) (z : 0 < w) (e : a ≡ up n WANT s x 0) where
+  less : wanted n a + 1 ≡ wanted n s
+  less = rw e (wanted-less n s x room hx (omega arith))
+
+  pub tabled-want : Tabled n a k
+  tabled-want = tabled-same n s a k (λ t. rw e (simp mem)) (omega (arith, less)) h
+
+  pub tabled-spare : k + wanted n a < n
+  tabled-spare = omega (arith, less, h .spare)
 
 -- one row more
 pub tabled-row : (n x quota reads : ℕ) (s : List ℤ) (t : Tray) (a b : List ℤ) (r : Tray) → a ≡ up n TMP s (t .cnt) x → b ≡ removed n a x → r ≡ counted quota reads t
-    → Tabled n s (t .cnt) → Room n s → x < n → t .cnt < n → Tabled n b (r .cnt)
+    → Tabled n s (t .cnt) → Room n s → x < n → t .cnt + wanted n s < n → Tabled n b (r .cnt)
 unfolding counted
 tabled-row n x quota reads s t a b r ha hb hr h room hx hc =
     rw (hb, ha, hr)
     record {
-      few = omega arith;
+      spare =
+          omega (
+            arith,
+            wanted-same n s (removed n (up n TMP s (t .cnt) x) x)
+                (λ i. removed-other n (up n TMP s (t .cnt) x) x WANT i refl refl refl ∙ rd-up-field n TMP WANT s (t .cnt) x i refl),
+          );
       rows = λ i l. rw (removed-other n (up n TMP s (t .cnt) x) x TMP i refl refl refl) (by i l (same? i (t .cnt)));
     }
   where
     by : (i : ℕ) → i < t .cnt + 1 → (i ≡ t .cnt) ⊎ (i ≢ t .cnt) → rd n TMP (up n TMP s (t .cnt) x) i < n
-    by i l (inl e) = rw e (let z : rd n TMP (up n TMP s (t .cnt) x) (t .cnt) ≡ x = simp (mem, room-yes n s room, lt-ltb (t .cnt) n hc) in omega (arith, z))
+    by i l (inl e) = rw e (let z : rd n TMP (up n TMP s (t .cnt) x) (t .cnt) ≡ x = simp (mem, room-yes n s room, lt-ltb (t .cnt) n (omega arith)) in omega (arith, z))
     by i l (inr d) = let z : rd n TMP (up n TMP s (t .cnt) x) i ≡ rd n TMP s i = simp mem in omega (arith, z, h .rows i (omega (arith, d)))
 
 -- ---- room is made beside it
 
-module _ (n i : ℕ) where
-  -- number i of the table is as in s
+module _ (n c i : ℕ) (hl : eqb LEN c ≡ false) (hp : eqb PE c ≡ false) where
+  -- cell i of field c is as in s
   abbrev Kept : List ℤ → List ℤ → Type 0
-  Kept s m = rd n TMP m i ≡ rd n TMP s i
+  Kept s m = rd n c m i ≡ rd n c s i
 
   kept-dropped : (l : List ℤ) (me : ℕ) (s : List ℤ) → Kept s (droppedAll n l me s)
   unfolding droppedAll droppedPart droppedAt
   kept-dropped l me s =
       let k = rd n ELEN s me in
-      rd-up-field n LEN TMP (times k (λ t m. up n LEN m (at l (rd n PE s me + t)) 0) s) me 0 i refl
-      ∙ times-keeps (λ t m. Kept s m) (λ t m. up n LEN m (at l (rd n PE s me + t)) 0) k (λ t m b e. rd-up-field n LEN TMP m (at l (rd n PE s me + t)) 0 i refl ∙ e) k s (omega arith) refl
+      rd-up-field n LEN c (times k (λ t m. up n LEN m (at l (rd n PE s me + t)) 0) s) me 0 i hl
+      ∙ times-keeps (λ t m. Kept s m) (λ t m. up n LEN m (at l (rd n PE s me + t)) 0) k (λ t m b e. rd-up-field n LEN c m (at l (rd n PE s me + t)) 0 i hl ∙ e) k s (omega arith) refl
 
   kept-one : (top j : ℕ) (m : Heap) → Kept (m .mem) (movedOne n top j m .mem)
   unfolding movedOne movedDown
-  kept-one top j m = cond-has (λ (y : Heap). Kept (m .mem) (y .mem)) (ltb 0 (due (places n (m .mem)) top j)) (λ e. rd-up-field n PE TMP (m .mem) j (m .end) i refl) (λ e. refl)
+  kept-one top j m = cond-has (λ (y : Heap). Kept (m .mem) (y .mem)) (ltb 0 (due (places n (m .mem)) top j)) (λ e. rd-up-field n PE c (m .mem) j (m .end) i hp) (λ e. refl)
 
   kept-next : (top t : ℕ) (m : Heap) → Kept (m .mem) (movedNext n top t m .mem)
   unfolding movedNext
@@ -89,4 +141,5 @@ module _ (n i : ℕ) where
 
 pub tabled-room : (n me base lim cnt mark : ℕ) (l s l₂ s₂ : List ℤ) (e : Ends) (k : ℕ) → Tabled n s k → cleared l₂ s₂ e ≡ madeRoom n me base lim cnt mark l s → Tabled n s₂ k
 tabled-room n me base lim cnt mark l s l₂ s₂ e k h c =
-    tabled-same n s s₂ k (λ t. ap (λ (y : Cleared). rd n TMP (y .mem) t) c ∙ kept-room n t me base lim cnt mark l s) h
+    tabled-same n s s₂ k (λ t. ap (λ (y : Cleared). rd n TMP (y .mem) t) c ∙ kept-room n TMP t refl refl me base lim cnt mark l s)
+    (omega (arith, wanted-same n s s₂ (λ t. ap (λ (y : Cleared). rd n WANT (y .mem) t) c ∙ kept-room n WANT t refl refl me base lim cnt mark l s))) h

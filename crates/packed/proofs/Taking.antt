@@ -28,7 +28,7 @@ use Rattle.chain.proofs.Alike.{Alike, alike-self, alike-then, fold-room, remove
 use Rattle.chain.proofs.Unlink.{removed-other, removed-parent, removed-room}
 use Rattle.chain.specs.Model.{removed}
 use Rattle.packed.specs.Reading.{entriesOf, pickOne, sofarOf}
-use Rattle.packed.specs.Tray.{Taking, counted, emptyTray, passedBy, taking, took, tookRow, tookWanted, wrapped}
+use Rattle.packed.specs.Tray.{Taking, counted, emptyTray, passedBy, taking, took, tookRow, wrapped}
 use Rattle.packed.proofs.Picked.{foldl-append}
 use Rattle.packed.proofs.Trays.{wrapped-sum}
 use Rattle.packed.specs.declared.Tray.{Tray}
@@ -228,8 +228,8 @@ module _ (n : ℕ) (quota : ℕ) (s : List ℤ) (room : Room n s) where
           }
 
       took-row : took n quota x m ≡ taking s₃ (counted quota (wrapped (m .tray .reads) 1) (m .tray))
-      unfolding took tookWanted tookRow
-      took-row = rw (lt-ltb 0 (rd n WANT (m .mem) x) z, lt-ltb (m .tray .cnt) n (omega (arith, h .cnt, free)))
+      unfolding took tookRow
+      took-row = rw (lt-ltb 0 (rd n WANT (m .mem) x) z)
 
     passed : rd n WANT (m .mem) x ≤ 0 → took n quota x m ≡ taking (m .mem) (passedBy (m .tray))
     unfolding took

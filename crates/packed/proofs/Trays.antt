@@ -11,7 +11,7 @@ use lib.IntN.{ℤ}
 use Rattle.cells.specs.Layout.{ELEN, LEN, PE, TMP, WANT}
 use Rattle.cells.specs.View.{at, plus, rd, up}
 use Rattle.chain.specs.Model.{removed}
-use Rattle.packed.specs.Tray.{Taking, counted, emptyTray, ownPart, passedBy, taking, took, tookAll, tookElement, tookElements, tookOwn, tookPart, tookRow, tookWanted, wrapped}
+use Rattle.packed.specs.Tray.{Taking, counted, emptyTray, ownPart, passedBy, taking, took, tookAll, tookElement, tookElements, tookOwn, tookPart, tookRow, wrapped}
 use Rattle.packed.specs.declared.Part.{Part}
 use Rattle.packed.specs.declared.Tray.{Tray}
 
@@ -35,13 +35,9 @@ module _ (n x quota reads : ℕ) (s : List ℤ) (t : Tray) (a b : List ℤ) (r :
   row-step = rw (← ha, ← hb, ← hr)
 
 module _ (n x quota : ℕ) (s : List ℤ) (t : Tray) (w : ℕ) (hw : w ≡ rd n WANT s x) (k : ℕ) (hk : k ≡ (t .reads + 1) % 2 ^ 64) where
-  pub take-row : (a : List ℤ) (y : Taking) → a ≡ up n WANT s x 0 → y ≡ tookRow n quota x k (taking a t) → 0 < w → t .cnt < n → y ≡ took n quota x (taking s t)
-  unfolding took tookWanted wrapped
-  take-row a y ha hy h c = rw (← hw, lt-ltb 0 w h, ← ha, lt-ltb (t .cnt) n c, ← hk) hy
-
-  pub take-full : (a : List ℤ) → a ≡ up n WANT s x 0 → 0 < w → n ≤ t .cnt → taking a (record { cnt = t .cnt; reads = k; mark = t .mark }) ≡ took n quota x (taking s t)
-  unfolding took tookWanted passedBy wrapped
-  take-full a ha h c = rw (← hw, lt-ltb 0 w h, ← ha, le-ltb (t .cnt) n c, hk)
+  pub take-row : (a : List ℤ) (y : Taking) → a ≡ up n WANT s x 0 → y ≡ tookRow n quota x k (taking a t) → 0 < w → y ≡ took n quota x (taking s t)
+  unfolding took wrapped
+  take-row a y ha hy h = rw (← hw, lt-ltb 0 w h, ← ha, ← hk) hy
 
   pub take-no : w ≤ 0 → taking s (record { cnt = t .cnt; reads = k; mark = t .mark }) ≡ took n quota x (taking s t)
   unfolding took passedBy wrapped

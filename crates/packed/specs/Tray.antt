@@ -11,12 +11,17 @@ use Rattle.cells.specs.Layout.{ELEN, LEN, PE, TMP, WANT}
 use Rattle.cells.specs.Rows.{clipped}
 use Rattle.cells.specs.View.{at, plus, rd, up}
 use Rattle.chain.specs.Model.{removed}
+use Rattle.packed.specs.Places.{sumTo}
 use Rattle.packed.specs.declared.Part.{Part}
 use Rattle.packed.specs.declared.Tray.{Tray}
 
--- the scratch table begins with k rows
+-- how many rows are wanted
+unfoldable pub wanted : ℕ → List ℤ → ℕ
+wanted n s = sumTo n (λ i. cond (ltb 0 (rd n WANT s i)) 1 0)
+
+-- the scratch table begins with k rows, and has a cell for each row that is still wanted
 pub record Tabled (n : ℕ) (s : List ℤ) (k : ℕ) : Type 0 where
-  pub few : k ≤ n
+  pub spare : k + wanted n s ≤ n
   pub rows : (t : ℕ) → t < k → rd n TMP s t < n
 
 -- the sum, as a machine's word has it
@@ -43,15 +48,11 @@ passedBy t = record { cnt = t .cnt; reads = wrapped (t .reads) 1; mark = t .mark
 unfoldable pub tookRow : ℕ → ℕ → ℕ → ℕ → Taking → Taking
 tookRow n quota x r m = taking (removed n (up n TMP (m .mem) (m .tray .cnt) x) x) (counted quota r (m .tray))
 
--- x is wanted: it is collected, if the table has a cell for it
-unfoldable pub tookWanted : ℕ → ℕ → ℕ → Taking → Taking
-tookWanted n quota x m =
-    cond (ltb (m .tray .cnt) n) (tookRow n quota x (wrapped (m .tray .reads) 1) m) (taking (m .mem) (passedBy (m .tray)))
-
--- x is read: it is wanted no more if it was
+-- x is read: if it is wanted, it is collected, and wanted no more
 unfoldable pub took : ℕ → ℕ → ℕ → Taking → Taking
 took n quota x m =
-    cond (ltb 0 (rd n WANT (m .mem) x)) (tookWanted n quota x (taking (up n WANT (m .mem) x 0) (m .tray))) (taking (m .mem) (passedBy (m .tray)))
+    cond (ltb 0 (rd n WANT (m .mem) x)) (tookRow n quota x (wrapped (m .tray .reads) 1) (taking (up n WANT (m .mem) x 0) (m .tray)))
+    (taking (m .mem) (passedBy (m .tray)))
 
 -- the numbers of a part of the list space, as far as it is there
 unfoldable pub tookPart : ℕ → ℕ → List ℤ → ℕ → ℕ → Taking → Taking

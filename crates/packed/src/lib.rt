@@ -1,13 +1,13 @@
 // Lists packed into one lent space, their collection to the space's beginning, and the list of a new element gathered from others, whose rows leave their degree lists.
 // Nothing here asks for a memory that makes sense, but for rows in the list space and in the scratch table: a contract is the function's own model, and the laws of `proofs/` say what it does to the lists.
 ghost use mathlib.Core.Path.{_≡_};
-ghost use Prim.Native.Nat.{_<_, _^_};
+ghost use Prim.Native.Nat.{_+_, _<_, _^_};
 ghost use lib.ListN.{length};
 ghost use Rattle.cells.specs.View.{Room, at};
 ghost use Rattle.cells.specs.Rows.{Rows};
 ghost use Rattle.packed.specs.Places.{places, due};
 ghost use Rattle.packed.specs.Model.{copied, heap, movedOne, movedLow, movedNext, movedNew, packedLow, packedAll, laid, entered};
-ghost use Rattle.packed.specs.Tray.{Tabled, taking, counted, tookRow, took, tookPart, tookElement, tookElements, ownPart, tookAll};
+ghost use Rattle.packed.specs.Tray.{Tabled, wanted, taking, counted, tookRow, took, tookPart, tookElement, tookElements, ownPart, tookAll};
 ghost use Rattle.packed.specs.Gather.{droppedAt, droppedPart, droppedAll, addedLength, allLengths, cleared, collectedRest, madeRoom, outside, Brief, summed, gatheredOutside, inside, gatheredInside};
 
 // The end of the lists that go by number, and the end of all.
@@ -174,9 +174,9 @@ pub fn count(quota: usize, reads: usize, t: Tray) -> Tray
     }
 }
 
-// The entry `x`, with which `reads` are read, goes into the table, and leaves its degree list.
+// The entry `x`, with which `reads` are read, goes into the table, which has a cell for it beside those of the rows that are still wanted, and leaves its degree list.
 pub fn take_row(s: &mut [i64], n: usize, x: usize, quota: usize, reads: usize, t: Tray) -> Tray
-    requires { ⌜ Room n (now s) × (x < n) × (t .cnt < n) × Tabled n (now s) (t .cnt) ⌝ }
+    requires { ⌜ Room n (now s) × (x < n) × (t .cnt + wanted n (now s) < n) × Tabled n (now s) (t .cnt) ⌝ }
     ensures { λ r. ⌜ (taking (now (s .exit)) r ≡ tookRow n quota x reads (taking (now (s .entry)) t)) × Room n (now (s .exit)) × Tabled n (now (s .exit)) (r .cnt) ⌝ }
 {
     cells::note(s, n, cells::TMP, t.cnt, x);
@@ -184,8 +184,7 @@ pub fn take_row(s: &mut [i64], n: usize, x: usize, quota: usize, reads: usize, t
     count(quota, reads, t)
 }
 
-// Reads the entry `x`: if it is wanted, it is collected, as long as the table has a cell for it. The wish is cleared before the table's end is tested, so that
-// no compiler makes one slower test of two.
+// Reads the entry `x`: if it is wanted, it is collected, and wanted no more. So the table has a cell for it, whatever was read before.
 pub fn take_one(s: &mut [i64], n: usize, x: usize, quota: usize, t: Tray) -> Tray
     requires { ⌜ Room n (now s) × (x < n) × Tabled n (now s) (t .cnt) ⌝ }
     ensures { λ r. ⌜ (taking (now (s .exit)) r ≡ took n quota x (taking (now (s .entry)) t)) × Room n (now (s .exit)) × Tabled n (now (s .exit)) (r .cnt) ⌝ }
@@ -194,14 +193,13 @@ pub fn take_one(s: &mut [i64], n: usize, x: usize, quota: usize, t: Tray) -> Tra
     let reads = std::num::wrapping_add_usize(t.reads, 1);
     if 0 < w {
         cells::set(s, n, cells::WANT, x, 0);
-        if t.cnt < n {
-            return take_row(s, n, x, quota, reads, t);
+        take_row(s, n, x, quota, reads, t)
+    } else {
+        Tray {
+            cnt: t.cnt,
+            reads: reads,
+            mark: t.mark,
         }
-    }
-    Tray {
-        cnt: t.cnt,
-        reads: reads,
-        mark: t.mark,
     }
 }
 

@@ -1,4 +1,4 @@
-use Rattle.packed.proofs.Tables.{tabled-none}
+use Rattle.packed.proofs.Tables.{tabled-few, tabled-none}
 use Rattle.packed.proofs.Trays.{all-step}
 use borrow.Author.Needs.{needs}
 use native.Mathlib.Omega.{arith}
@@ -30,7 +30,7 @@ same-length : tie.Need-same-length
 same-length c = search needs
 
 returns : tie.Need-returns
-returns c = (search (needs, all-step), search needs, search needs, omega (arith, c .before .take-part .ensures .2 .few, c .before .before .before .before .before .before .before .before .before .before .before .before .pre .0 .room, c .before .before .before .before .before .before .before .before .before .before .before .before .good))
+returns c = (search (needs, all-step), search needs, search needs, omega (arith, tabled-few _ _ _ (c .before .take-part .ensures .2), c .before .before .before .before .before .before .before .before .before .before .before .before .pre .0 .room, c .before .before .before .before .before .before .before .before .before .before .before .before .good))
 
 pub take-all-spec : {M : Type 1} → statement M
 take-all-spec =

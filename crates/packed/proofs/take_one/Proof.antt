@@ -1,5 +1,5 @@
-use Rattle.packed.proofs.Tables.{tabled-want}
-use Rattle.packed.proofs.Trays.{take-full, take-no, take-row}
+use Rattle.packed.proofs.Tables.{tabled-spare, tabled-want}
+use Rattle.packed.proofs.Trays.{take-no, take-row}
 use borrow.Author.Needs.{needs}
 use Rattle.packed.proofs.take_one.Statement.{statement}
 use Rattle.packed.proofs.take_one.Tie as tie
@@ -20,7 +20,7 @@ set-requires : tie.Need-set-requires
 set-requires c κs = search needs
 
 take-row-requires : tie.Need-take-row-requires
-take-row-requires c κs = (search needs, search needs, search needs, tabled-want _ _ _ _ _ (c .before .before .before .before .before .before .before .before .before .before .pre .2) (c .before .before .before .before .set .ensures .0))
+take-row-requires c κs = (search needs, search needs, search (needs, tabled-spare), search (needs, tabled-want))
 
 same-length : tie.Need-same-length
 same-length c = search needs
@@ -32,13 +32,7 @@ same-length-2 : tie.Need-same-length-2
 same-length-2 c = search needs
 
 returns-2 : tie.Need-returns-2
-returns-2 c = search (needs, take-full, tabled-want)
-
-same-length-3 : tie.Need-same-length-3
-same-length-3 c = search needs
-
-returns-3 : tie.Need-returns-3
-returns-3 c = search (needs, take-no)
+returns-2 c = search (needs, take-no)
 
 pub take-one-spec : {M : Type 1} → statement M
 take-one-spec =
@@ -51,6 +45,4 @@ take-one-spec =
     same-length
     returns
     same-length-2
-    returns-2
-    same-length-3
-    returns-3)
+    returns-2)
