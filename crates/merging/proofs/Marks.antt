@@ -145,20 +145,20 @@ all-three true true r = refl
 all-three true false r = refl
 all-three false q r = refl
 
--- K-a in memory: where the entries of i are marked, the comparison is the definition's
-pub alike-same : (n : ℕ) (l s : List ℤ) (g : Graph) (flag i j : ℕ) → Held n l s g i → Held n l s g j → Marked n s flag (entriesOf g i)
-    → ((y : ℕ) → In y (entriesOf g j) → y < n) → Distinct (entriesOf g j) → alikeNow l n s i j flag ≡ sameLists g i j
+-- K-a in memory: where the entries of i are marked, and its list is of length len with elen elements, the comparison is the definition's
+pub alike-same : (n : ℕ) (l s : List ℤ) (g : Graph) (flag i j len elen : ℕ) → Held n l s g i → Held n l s g j → Marked n s flag (entriesOf g i)
+    → rd n LEN s i ≡ len → rd n ELEN s i ≡ elen → ((y : ℕ) → In y (entriesOf g j) → y < n) → Distinct (entriesOf g j) → alikeNow l n s j len elen flag ≡ sameLists g i j
 unfolding alikeNow sameElements tailMarked allMarked
-alike-same n l s g flag i j hi hj m b d =
+alike-same n l s g flag i j len elen hi hj m hl he b d =
     let a = held-length n l s g i hi in
     let c = held-length n l s g j hj in
-    all-three (eqb (rd n LEN s i) (rd n LEN s j)) (eqb (rd n ELEN s i) (rd n ELEN s j))
+    all-three (eqb len (rd n LEN s j)) (eqb elen (rd n ELEN s j))
     (every (hasMark n s flag) (entries (at l) (rd n PE s j + 1) (clipped (length l) (rd n PE s j + 1) (rd n LEN s j - 1))))
     ∙ rw (
       clipped-all (length l) (rd n PE s j + 1) (rd n LEN s j - 1) (held-inside n l s g j hj),
       held-rest n l s g j hj,
       every-marked n flag s (entriesOf g i) m (entriesOf g j) b,
-      eq-as (rd n LEN s i) (rd n LEN s j) (length (entriesOf g j)) (length (entriesOf g i)) (λ e. omega arith) (λ e. omega arith),
-      eq-as (rd n ELEN s i) (rd n ELEN s j) (length (elementsOf g j)) (length (elementsOf g i)) (λ e. omega (arith, hi .elen, hj .elen)) (λ e. omega (arith, hi .elen, hj .elen)),
+      eq-as len (rd n LEN s j) (length (entriesOf g j)) (length (entriesOf g i)) (λ e. omega arith) (λ e. omega arith),
+      eq-as elen (rd n ELEN s j) (length (elementsOf g j)) (length (elementsOf g i)) (λ e. omega (arith, hi .elen, hj .elen)) (λ e. omega (arith, hi .elen, hj .elen)),
     )
     (same-one-sided g i j d)

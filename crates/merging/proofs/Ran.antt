@@ -14,7 +14,7 @@ use Rattle.plain.proofs.Repeats.{distinct-keep, length-keep}
 use Rattle.plain.specs.Lists.{keep, member}
 use Rattle.plain.specs.Members.{Distinct, In}
 use Rattle.cells.proofs.Slices.{plus-sum}
-use Rattle.cells.specs.Layout.{HHEAD, HNEXT, LEN, PE, W}
+use Rattle.cells.specs.Layout.{ELEN, HHEAD, HNEXT, LEN, PE, W}
 use Rattle.cells.specs.View.{plus, rd}
 use Rattle.definition.specs.Merge.{alike, entriesOf, key, mergeAll, mergeOne, sameLists}
 use Rattle.definition.specs.State.{Graph, mergeInto}
@@ -74,7 +74,7 @@ module _ (n : ℕ) (l : List ℤ) (p : ℕ) (new : List ℕ) (cnt base lim : ℕ
         marking-all l n (t .flag) (rd n PE s i + 1) (rd n LEN s i - 1) s (held-inside n l s h i (held s h (r .now) i ri))
         ∙ ap (λ (xs : List ℕ). markAll n (t .flag) xs s) (held-rest n l s h i (held s h (r .now) i ri))
 
-    behind : Behind n l p new cnt base lim i (t .flag) sₘ h i (rd n HNEXT s i) (t .logged) js
+    behind : Behind n l p new cnt base lim i (rd n LEN sₘ i) (rd n ELEN sₘ i) (t .flag) sₘ h i (rd n HNEXT s i) (t .logged) js
     behind =
         record {
           now = marks-now (t .flag) (entriesOf h i) s h (r .now);
@@ -83,6 +83,8 @@ module _ (n : ℕ) (l : List ℤ) (p : ℕ) (new : List ℕ) (cnt base lim : ℕ
           distinct = r .distinct .1;
           other = r .distinct .0;
           marked = marks n (t .flag) (entriesOf h i) s (r .now .drawn .space .room) (r .below);
+          long = refl;
+          many = refl;
           chain = chain-same n (rd n HNEXT s) (rd n HNEXT sₘ) js (rd n HNEXT s i) (λ v m. marks-field n (t .flag) HNEXT refl (entriesOf h i) s v) (r .chain .2);
           small = ri .below;
           before = r .distinct .0;
@@ -90,10 +92,10 @@ module _ (n : ℕ) (l : List ℤ) (p : ℕ) (new : List ℕ) (cnt base lim : ℕ
         }
 
     abbrev mᵢ : Comparing
-    mᵢ = followers l n i (t .flag) k (comparing sₘ (record { last = i; next = rd n HNEXT s i; logged = t .logged }))
+    mᵢ = followers l n i (rd n LEN sₘ i) (rd n ELEN sₘ i) (t .flag) k (comparing sₘ (record { last = i; next = rd n HNEXT s i; logged = t .logged }))
 
-    w : Walked n l p new cnt base lim i (t .flag) sₘ h i js mᵢ
-    w = along n l p new cnt base lim i (t .flag) once js k sₘ h i (rd n HNEXT s i) (t .logged) enough behind
+    w : Walked n l p new cnt base lim i (rd n LEN sₘ i) (rd n ELEN sₘ i) (t .flag) sₘ h i js mᵢ
+    w = along n l p new cnt base lim i (rd n LEN sₘ i) (rd n ELEN sₘ i) (t .flag) once js k sₘ h i (rd n HNEXT s i) (t .logged) enough behind
 
     is-at : mergedAt l n k i (rd n HNEXT s i) (merging s t) ≡ flagged (walked (t .flag) mᵢ)
     unfolding mergedAt mergedInto

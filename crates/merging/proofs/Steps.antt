@@ -31,23 +31,23 @@ pub tail-step : (l : List ℤ) (n : ℕ) (s : List ℤ) (j len flag p rest : ℕ
 unfolding tailMarked
 tail-step l n s j len flag p rest r hp hr h = rw (← hp, ← hr) h
 
-module _ (l : List ℤ) (n : ℕ) (s : List ℤ) (i j len flag a b : ℕ) (ha : a ≡ rd n ELEN s i) (hb : b ≡ rd n ELEN s j) where
-  pub elements-same : (r : _) → r ≡ tailMarked l n s j len flag → a ≡ b → r ≡ sameElements l n s i j len flag
+module _ (l : List ℤ) (n : ℕ) (s : List ℤ) (j len elen flag own : ℕ) (ho : own ≡ rd n ELEN s j) where
+  pub elements-same : (r : _) → r ≡ tailMarked l n s j len flag → elen ≡ own → r ≡ sameElements l n s j len elen flag
   unfolding sameElements
-  elements-same r h e = rw (← ha, ← hb, eq-eqb a b e) h
+  elements-same r h e = rw (← ho, eq-eqb elen own e) h
 
-  pub elements-differ : a ≢ b → false ≡ sameElements l n s i j len flag
+  pub elements-differ : elen ≢ own → false ≡ sameElements l n s j len elen flag
   unfolding sameElements
-  elements-differ e = rw (← ha, ← hb, ne-eqb a b e)
+  elements-differ e = rw (← ho, ne-eqb elen own e)
 
-module _ (l : List ℤ) (n : ℕ) (s : List ℤ) (i j flag a b : ℕ) (ha : a ≡ rd n LEN s i) (hb : b ≡ rd n LEN s j) where
-  pub length-same : (r : _) → r ≡ sameElements l n s i j b flag → a ≡ b → r ≡ alikeNow l n s i j flag
+module _ (l : List ℤ) (n : ℕ) (s : List ℤ) (j len elen flag own : ℕ) (ho : own ≡ rd n LEN s j) where
+  pub length-same : (r : _) → r ≡ sameElements l n s j own elen flag → len ≡ own → r ≡ alikeNow l n s j len elen flag
   unfolding alikeNow
-  length-same r h e = rw (← ha, ← hb, eq-eqb a b e) h
+  length-same r h e = rw (← ho, eq-eqb len own e) h
 
-  pub length-differs : a ≢ b → false ≡ alikeNow l n s i j flag
+  pub length-differs : len ≢ own → false ≡ alikeNow l n s j len elen flag
   unfolding alikeNow
-  length-differs e = rw (← ha, ← hb, ne-eqb a b e)
+  length-differs e = rw (← ho, ne-eqb len own e)
 
 -- ---- a merge
 
@@ -71,12 +71,13 @@ pub take-step : (n i next : ℕ) (s : List ℤ) (w : Walk) (t r : List ℤ) (log
 unfolding takenNext
 take-step n i next s w t r log ht hr hl = rw (hr, ht, hl)
 
-module _ (l : List ℤ) (n i flag : ℕ) (s : List ℤ) (w : Walk) (next : ℕ) (hn : next ≡ rd n HNEXT s (w .next)) (b : Bool) (hb : b ≡ alikeNow l n s i (w .next) flag) where
-  pub compare-yes : (y : Comparing) → y ≡ takenNext n i next (comparing s w) → b ≡ true → y ≡ compared l n i flag (comparing s w)
+module _ (l : List ℤ) (n i len elen flag : ℕ) (s : List ℤ) (w : Walk) (next : ℕ) (hn : next ≡ rd n HNEXT s (w .next)) (b : Bool)
+    (hb : b ≡ alikeNow l n s (w .next) len elen flag) where
+  pub compare-yes : (y : Comparing) → y ≡ takenNext n i next (comparing s w) → b ≡ true → y ≡ compared l n i len elen flag (comparing s w)
   unfolding compared
   compare-yes y h e = rw (← hb, e, ← hn) h
 
-  pub compare-no : b ≡ false → comparing s (record { last = w .next; next = next; logged = w .logged }) ≡ compared l n i flag (comparing s w)
+  pub compare-no : b ≡ false → comparing s (record { last = w .next; next = next; logged = w .logged }) ≡ compared l n i len elen flag (comparing s w)
   unfolding compared passedNext
   compare-no e = rw (← hb, e, ← hn)
 

@@ -16,7 +16,7 @@ use Rattle.plain.proofs.Members.{apart, member-here, member-there, not-here, no
 use Rattle.plain.specs.Lists.{keep, member}
 use Rattle.plain.specs.Members.{Distinct, In}
 use Rattle.cells.proofs.Laws.{mem, rd-up-field, room-yes}
-use Rattle.cells.specs.Layout.{HNEXT, LEN, MERGES, NV, PE, W}
+use Rattle.cells.specs.Layout.{ELEN, HNEXT, LEN, MERGES, NV, PE, W}
 use Rattle.cells.specs.View.{Room, plus, rd, up}
 use Rattle.definition.specs.Merge.{alike, entriesOf, key, mergeOne, sameLists}
 use Rattle.definition.specs.State.{Graph, mergeInto, putKind, putParent, putReps, putWeight}
@@ -24,7 +24,7 @@ use Rattle.drawn.specs.Buckets.{Chain}
 use Rattle.drawn.proofs.Buckets.{chain-same}
 use Rattle.merging.specs.Rows.{Now, Row}
 use Rattle.merging.specs.Model.{Comparing, alikeNow, compared, comparing, followers, joined, passedNext, takenNext}
-use Rattle.merging.proofs.Joins.{join-field, join-other, join-room}
+use Rattle.merging.proofs.Joins.{join-field, join-gone, join-other, join-room}
 use Rattle.merging.proofs.Marks.{Marked, alike-same}
 use Rattle.merging.proofs.Rows.{field-now, held, join-now, row-kept}
 use Rattle.merging.proofs.Walks.{at-end}
@@ -33,7 +33,7 @@ use Rattle.merging.proofs.Walks.{at-end}
 abbrev pub oneKey : ℕ → ℕ
 oneKey sum = 0
 
-module _ (n : ℕ) (l : List ℤ) (p : ℕ) (new : List ℕ) (cnt base lim i flag : ℕ) where
+module _ (n : ℕ) (l : List ℤ) (p : ℕ) (new : List ℕ) (cnt base lim i len elen flag : ℕ) where
   -- what the walk along js, behind `last`, leaves of s and h
   pub record Walked (s : List ℤ) (h : Graph) (last : ℕ) (js : List ℕ) (m : Comparing) : Type 0 where
     pub now : Now n l p new cnt base lim (m .mem) (foldl (mergeOne oneKey i) h js) (m .walk .logged)
@@ -55,6 +55,8 @@ module _ (n : ℕ) (l : List ℤ) (p : ℕ) (new : List ℕ) (cnt base lim i fla
     pub distinct : Distinct js
     pub other : member i js ≡ false
     pub marked : Marked n s flag (entriesOf h i)
+    pub long : rd n LEN s i ≡ len
+    pub many : rd n ELEN s i ≡ elen
     pub chain : Chain n (rd n HNEXT s) x js
     pub small : last < n
     pub before : member last js ≡ false
@@ -101,6 +103,8 @@ module _ (n : ℕ) (l : List ℤ) (p : ℕ) (new : List ℕ) (cnt base lim i fla
           distinct = b .distinct .1;
           other = not-there i j js (b .other);
           marked = record { is = λ y a. rw (field₁ W y refl refl refl refl refl) (b .marked .is y a) };
+          long = rd-up-field n HNEXT LEN (joined n s i j log) last (rd n HNEXT s j) i refl ∙ join-gone n s i j log room (b .first .below) (rj .below) ij .len i ij ∙ b .long;
+          many = field₁ ELEN i refl refl refl refl refl ∙ b .many;
           chain = chain-same n (rd n HNEXT s) (rd n HNEXT s₁) js (rd n HNEXT s j)
               (λ v m. next₁ v (λ e. apart last v js (not-there last j js (b .before)) m (sym e)))
               (subst (λ (z : ℕ). Chain n (rd n HNEXT s) z js) refl (b .chain .2));
@@ -135,6 +139,8 @@ module _ (n : ℕ) (l : List ℤ) (p : ℕ) (new : List ℕ) (cnt base lim i fla
           distinct = b .distinct .1;
           other = not-there i j js (b .other);
           marked = b .marked;
+          long = b .long;
+          many = b .many;
           chain = b .chain .2;
           small = rj .below;
           before = b .distinct .0;
@@ -165,38 +171,38 @@ module _ (n : ℕ) (l : List ℤ) (p : ℕ) (new : List ℕ) (cnt base lim i fla
     abbrev mₚ : Comparing
     mₚ = comparing s (record { last = j; next = rd n HNEXT s j; logged = log })
 
-    more : (k : ℕ) → followers l n i flag (suc k) m₀ ≡ followers l n i flag k (compared l n i flag m₀)
+    more : (k : ℕ) → followers l n i len elen flag (suc k) m₀ ≡ followers l n i len elen flag k (compared l n i len elen flag m₀)
     unfolding followers
     more k = rw (lt-ltb j n (rj .below))
 
-    is-alike : alikeNow l n s i j flag ≡ sameLists h i j
-    is-alike = alike-same n l s h flag i j (held s h (b .now) i (b .first)) (held s h (b .now) j rj) (b .marked) (rj .few) (rj .once)
+    is-alike : alikeNow l n s j len elen flag ≡ sameLists h i j
+    is-alike = alike-same n l s h flag i j len elen (held s h (b .now) i (b .first)) (held s h (b .now) j rj) (b .marked) (b .long) (b .many) (rj .few) (rj .once)
 
-    to-taken : sameLists h i j ≡ true → compared l n i flag m₀ ≡ mₜ
+    to-taken : sameLists h i j ≡ true → compared l n i len elen flag m₀ ≡ mₜ
     unfolding compared takenNext
     to-taken e = rw (is-alike, e)
 
-    to-passed : sameLists h i j ≡ false → compared l n i flag m₀ ≡ mₚ
+    to-passed : sameLists h i j ≡ false → compared l n i len elen flag m₀ ≡ mₚ
     unfolding compared passedNext
     to-passed e = rw (is-alike, e)
 
-    step : (k : ℕ) → (Behind s₁ (mergeInto i j h) last (rd n HNEXT s j) (plus log 1) js → Walked s₁ (mergeInto i j h) last js (followers l n i flag k mₜ))
-        → (Behind s h j (rd n HNEXT s j) log js → Walked s h j js (followers l n i flag k mₚ)) → Walked s h last (j ∷ js) (followers l n i flag (suc k) m₀)
+    step : (k : ℕ) → (Behind s₁ (mergeInto i j h) last (rd n HNEXT s j) (plus log 1) js → Walked s₁ (mergeInto i j h) last js (followers l n i len elen flag k mₜ))
+        → (Behind s h j (rd n HNEXT s j) log js → Walked s h j js (followers l n i len elen flag k mₚ)) → Walked s h last (j ∷ js) (followers l n i len elen flag (suc k) m₀)
     step k f g =
         rw (more k)
-        (either (Walked s h last (j ∷ js) (followers l n i flag k (compared l n i flag m₀))) (sameLists h i j)
-        (λ e. rw (to-taken e) (taken (followers l n i flag k mₜ) e (f taken-behind)))
-        (λ e. rw (to-passed e) (passed (followers l n i flag k mₚ) e (g passed-behind))))
+        (either (Walked s h last (j ∷ js) (followers l n i len elen flag k (compared l n i len elen flag m₀))) (sameLists h i j)
+        (λ e. rw (to-taken e) (taken (followers l n i len elen flag k mₜ) e (f taken-behind)))
+        (λ e. rw (to-passed e) (passed (followers l n i len elen flag k mₚ) e (g passed-behind))))
 
   -- the walks along js
   abbrev Walks : List ℕ → Type 0
   Walks js = (k : ℕ) (s : List ℤ) (h : Graph) (last x log : ℕ) → length js ≤ k → Behind s h last x log js
-      → Walked s h last js (followers l n i flag k (comparing s (record { last = last; next = x; logged = log })))
+      → Walked s h last js (followers l n i len elen flag k (comparing s (record { last = last; next = x; logged = log })))
 
   walks-none : Walks []
   unfolding keep
   walks-none k s h last x log a b =
-      rw (at-end l n i flag k (comparing s (record { last = last; next = x; logged = log })) (omega (arith, b .chain)))
+      rw (at-end l n i len elen flag k (comparing s (record { last = last; next = x; logged = log })) (omega (arith, b .chain)))
       record {
         now = b .now;
         chain = b .link ∙ b .chain;
@@ -216,6 +222,6 @@ module _ (n : ℕ) (l : List ℤ) (p : ℕ) (new : List ℕ) (cnt base lim i fla
 
   -- K-b in memory: the walk
   pub walked : Distinct new → (js : List ℕ) (k : ℕ) (s : List ℤ) (h : Graph) (last x log : ℕ) → length js ≤ k → Behind s h last x log js
-      → Walked s h last js (followers l n i flag k (comparing s (record { last = last; next = x; logged = log })))
+      → Walked s h last js (followers l n i len elen flag k (comparing s (record { last = last; next = x; logged = log })))
   walked once [] = walks-none
   walked once (j ∷ js) = walks-more once j js (walked once js)

@@ -1,4 +1,4 @@
--- The turns of the three loops that a test ends: entry after entry of a comparison, row after row of a walk along a bucket.
+-- The turns of the loops: entry after entry of a comparison, row after row of a walk along a bucket, of a bucket and of the new element.
 -- Assumes nothing.
 use Prim.Native.Nat.{_+_, _-_, _<_, _≤_, suc, zero, ℕ}
 use native.Mathlib.Nat.{add-zero}
@@ -14,12 +14,13 @@ use lib.IntN.{ℤ}
 use lib.ListN.{length}
 use Rattle.plain.proofs.Entries.{entries-snoc}
 use Rattle.plain.proofs.Logic.{cond-has}
+use Rattle.plain.proofs.Turns.{times-more, times-none}
 use Rattle.plain.specs.Lists.{every}
-use Rattle.plain.specs.Turns.{entries}
-use Rattle.cells.specs.Layout.{HNEXT, W}
+use Rattle.plain.specs.Turns.{entries, times}
+use Rattle.cells.specs.Layout.{ELEN, HNEXT, LEN, W}
 use Rattle.cells.specs.Rows.{clipped}
 use Rattle.cells.specs.View.{at, rd}
-use Rattle.merging.specs.Model.{Comparing, Merging, allMarked, bucketRun, compared, comparing, followers, hasMark, mergedAt, mergedInto, merging}
+use Rattle.merging.specs.Model.{Comparing, Merging, allMarked, bucketRun, compared, comparing, followers, hasMark, mergedAt, mergedInto, mergedRow, mergedRows, merging}
 use Rattle.merging.specs.declared.Tally.{Tally}
 use Rattle.merging.specs.declared.Walk.{Walk}
 
@@ -76,42 +77,42 @@ module _ (l : List ℤ) (n : ℕ) (s : List ℤ) (p flag : ℕ) where
 
 -- ---- a walk: what is left to do gives what was to be done
 
-pub record Walking (l : List ℤ) (n i flag k₀ : ℕ) (m₀ : Comparing) (k : ℕ) (m : Comparing) : Type 0 where
-  pub same : followers l n i flag k₀ m₀ ≡ followers l n i flag k m
+pub record Walking (l : List ℤ) (n i len elen flag k₀ : ℕ) (m₀ : Comparing) (k : ℕ) (m : Comparing) : Type 0 where
+  pub same : followers l n i len elen flag k₀ m₀ ≡ followers l n i len elen flag k m
 
-module _ (l : List ℤ) (n i flag k₀ : ℕ) (m₀ : Comparing) where
-  pub walk-start : Walking l n i flag k₀ m₀ k₀ m₀
+module _ (l : List ℤ) (n i len elen flag k₀ : ℕ) (m₀ : Comparing) where
+  pub walk-start : Walking l n i len elen flag k₀ m₀ k₀ m₀
   walk-start = record { same = refl }
 
-  next-turn : (k : ℕ) (m : Comparing) → k ≢ 0 → m .walk .next < n → followers l n i flag k m ≡ followers l n i flag (k - 1) (compared l n i flag m)
+  next-turn : (k : ℕ) (m : Comparing) → k ≢ 0 → m .walk .next < n → followers l n i len elen flag k m ≡ followers l n i len elen flag (k - 1) (compared l n i len elen flag m)
   unfolding followers
   next-turn zero m a b = absurd (a refl)
   next-turn (suc k) m a b = let e : k ≡ suc k - 1 = omega arith in rw (lt-ltb (m .walk .next) n b, ← e)
 
-  module _ (k : ℕ) (s : List ℤ) (w : Walk) (h : Walking l n i flag k₀ m₀ k (comparing s w)) where
-    pub walk-more : (r : List ℤ) (v : Walk) → comparing r v ≡ compared l n i flag (comparing s w) → k ≢ 0 → w .next < n → Walking l n i flag k₀ m₀ (k - 1) (comparing r v)
+  module _ (k : ℕ) (s : List ℤ) (w : Walk) (h : Walking l n i len elen flag k₀ m₀ k (comparing s w)) where
+    pub walk-more : (r : List ℤ) (v : Walk) → comparing r v ≡ compared l n i len elen flag (comparing s w) → k ≢ 0 → w .next < n → Walking l n i len elen flag k₀ m₀ (k - 1) (comparing r v)
     walk-more r v e a b = record { same = rw e (h .same ∙ next-turn k (comparing s w) a b) }
 
-pub at-end : (l : List ℤ) (n i flag k : ℕ) (m : Comparing) → n ≤ m .walk .next → followers l n i flag k m ≡ m
+pub at-end : (l : List ℤ) (n i len elen flag k : ℕ) (m : Comparing) → n ≤ m .walk .next → followers l n i len elen flag k m ≡ m
 unfolding followers
-at-end l n i flag zero m h = refl
-at-end l n i flag (suc k) m h = rw (le-ltb (m .walk .next) n h)
+at-end l n i len elen flag zero m h = refl
+at-end l n i len elen flag (suc k) m h = rw (le-ltb (m .walk .next) n h)
 
-at-last : (l : List ℤ) (n i flag k : ℕ) (m : Comparing) → k ≡ 0 → followers l n i flag k m ≡ m
+at-last : (l : List ℤ) (n i len elen flag k : ℕ) (m : Comparing) → k ≡ 0 → followers l n i len elen flag k m ≡ m
 unfolding followers
-at-last l n i flag k m h = rw h
+at-last l n i len elen flag k m h = rw h
 
-module _ (l : List ℤ) (n k i x : ℕ) (s : List ℤ) (t : Tally) (c : ℕ) (r : List ℤ) (w : Walk)
-    (h : Walking l n i (t .flag) k (comparing s (record { last = i; next = x; logged = t .logged })) c (comparing r w)) where
-  whole : followers l n i (t .flag) c (comparing r w) ≡ comparing r w → merging r (record { flag = t .flag; logged = w .logged }) ≡ mergedInto l n k i x (merging s t)
+module _ (l : List ℤ) (n k i x : ℕ) (s : List ℤ) (t : Tally) (len elen : ℕ) (hl : len ≡ rd n LEN s i) (he : elen ≡ rd n ELEN s i) (c : ℕ) (r : List ℤ) (w : Walk)
+    (h : Walking l n i len elen (t .flag) k (comparing s (record { last = i; next = x; logged = t .logged })) c (comparing r w)) where
+  whole : followers l n i len elen (t .flag) c (comparing r w) ≡ comparing r w → merging r (record { flag = t .flag; logged = w .logged }) ≡ mergedInto l n k i x (merging s t)
   unfolding mergedInto
-  whole e = rw (h .same, e)
+  whole e = rw (← hl, ← he, h .same, e)
 
   pub walk-end : n ≤ w .next → merging r (record { flag = t .flag; logged = w .logged }) ≡ mergedInto l n k i x (merging s t)
-  walk-end a = whole (at-end l n i (t .flag) c (comparing r w) a)
+  walk-end a = whole (at-end l n i len elen (t .flag) c (comparing r w) a)
 
   pub walk-out : c ≡ 0 → merging r (record { flag = t .flag; logged = w .logged }) ≡ mergedInto l n k i x (merging s t)
-  walk-out a = whole (at-last l n i (t .flag) c (comparing r w) a)
+  walk-out a = whole (at-last l n i len elen (t .flag) c (comparing r w) a)
 
 -- ---- the rows of a bucket
 
@@ -158,3 +159,27 @@ module _ (l : List ℤ) (n k c₀ i₀ : ℕ) (m₀ : Merging) where
 
     pub run-out : c ≡ 0 → merging s t ≡ bucketRun l n k c₀ i₀ m₀
     run-out a = sym (h .same ∙ run-last c i (merging s t) a)
+
+-- ---- the rows of the new element
+
+-- those in the cells from p up to q have had their turn
+pub record MergedTo (l : List ℤ) (n k p : ℕ) (m₀ : Merging) (q : ℕ) (m : Merging) : Type 0 where
+  pub first : p ≤ q
+  pub same : m ≡ times (q - p) (λ t. mergedRow l n k (p + t)) m₀
+
+module _ (l : List ℤ) (n k p : ℕ) (m₀ : Merging) where
+  pub rows-start : MergedTo l n k p m₀ p m₀
+  rows-start =
+      let z : p - p ≡ 0 = omega arith in
+      record { first = omega arith; same = rw z (sym (times-none (λ t. mergedRow l n k (p + t)) m₀)) }
+
+  module _ (q : ℕ) (m : Merging) (h : MergedTo l n k p m₀ q m) where
+    pub rows-more : (r : Merging) → r ≡ mergedRow l n k q m → MergedTo l n k p m₀ (q + 1) r
+    rows-more r e =
+        let z : q + 1 - p ≡ suc (q - p) = omega (arith, h .first) in
+        let x : p + (q - p) ≡ q = omega (arith, h .first) in
+        record { first = omega (arith, h .first); same = rw (z, times-more (λ t. mergedRow l n k (p + t)) m₀ (q - p), x, ← h .same) e }
+
+    pub rows-all : (there : ℕ) → there ≡ clipped (length l) p k → q ≤ p + there → p + there ≤ q → m ≡ mergedRows l n p k m₀
+    unfolding mergedRows
+    rows-all there e a b = let z : clipped (length l) p k ≡ q - p = omega arith in rw z (h .same)

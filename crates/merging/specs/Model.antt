@@ -35,16 +35,17 @@ hasMark n s flag x = eqb (rd n W s x) flag
 unfoldable pub allMarked : List ℤ → ℕ → List ℤ → ℕ → ℕ → ℕ → Bool
 allMarked l n s p k flag = every (hasMark n s flag) (entries (at l) p (clipped (length l) p k))
 
--- the entries of j's list after the first, its length being len
+-- the entries of j's list after the first, its length being len, are
 unfoldable pub tailMarked : List ℤ → ℕ → List ℤ → ℕ → ℕ → ℕ → Bool
 tailMarked l n s j len flag = allMarked l n s (rd n PE s j + 1) (len - 1) flag
 
+-- and it has elen elements
 unfoldable pub sameElements : List ℤ → ℕ → List ℤ → ℕ → ℕ → ℕ → ℕ → Bool
-sameElements l n s i j len flag = cond (eqb (rd n ELEN s i) (rd n ELEN s j)) (tailMarked l n s j len flag) false
+sameElements l n s j len elen flag = cond (eqb elen (rd n ELEN s j)) (tailMarked l n s j len flag) false
 
--- j has the list of i, whose entries are marked
-unfoldable pub alikeNow : List ℤ → ℕ → List ℤ → ℕ → ℕ → ℕ → Bool
-alikeNow l n s i j flag = cond (eqb (rd n LEN s i) (rd n LEN s j)) (sameElements l n s i j (rd n LEN s j) flag) false
+-- j has the list whose entries are marked, of length len with elen elements
+unfoldable pub alikeNow : List ℤ → ℕ → List ℤ → ℕ → ℕ → ℕ → ℕ → Bool
+alikeNow l n s j len elen flag = cond (eqb len (rd n LEN s j)) (sameElements l n s j (rd n LEN s j) elen flag) false
 
 -- ---- a merge
 
@@ -97,15 +98,16 @@ takenNext n i x m =
 unfoldable pub passedNext : ℕ → Comparing → Comparing
 passedNext x m = comparing (m .mem) (record { last = m .walk .next; next = x; logged = m .walk .logged })
 
-unfoldable pub compared : List ℤ → ℕ → ℕ → ℕ → Comparing → Comparing
-compared l n i flag m =
-    cond (alikeNow l n (m .mem) i (m .walk .next) flag)
+-- the one or the other, the list of i being of length len with elen elements
+unfoldable pub compared : List ℤ → ℕ → ℕ → ℕ → ℕ → ℕ → Comparing → Comparing
+compared l n i len elen flag m =
+    cond (alikeNow l n (m .mem) (m .walk .next) len elen flag)
     (takenNext n i (rd n HNEXT (m .mem) (m .walk .next)) m) (passedNext (rd n HNEXT (m .mem) (m .walk .next)) m)
 
 -- the rows from the next on, at most k
-unfoldable pub followers : List ℤ → ℕ → ℕ → ℕ → ℕ → Comparing → Comparing
-followers l n i flag zero m = m
-followers l n i flag (suc k) m = cond (ltb (m .walk .next) n) (followers l n i flag k (compared l n i flag m)) m
+unfoldable pub followers : List ℤ → ℕ → ℕ → ℕ → ℕ → ℕ → ℕ → Comparing → Comparing
+followers l n i len elen flag zero m = m
+followers l n i len elen flag (suc k) m = cond (ltb (m .walk .next) n) (followers l n i len elen flag k (compared l n i len elen flag m)) m
 
 -- what a walk leaves
 abbrev pub walked : ℕ → Comparing → Merging
@@ -114,7 +116,8 @@ walked flag m = merging (m .mem) (record { flag = flag; logged = m .walk .logged
 -- those behind i, from x on
 unfoldable pub mergedInto : List ℤ → ℕ → ℕ → ℕ → ℕ → Merging → Merging
 mergedInto l n k i x m =
-    walked (m .tally .flag) (followers l n i (m .tally .flag) k (comparing (m .mem) (record { last = i; next = x; logged = m .tally .logged })))
+    walked (m .tally .flag)
+    (followers l n i (rd n LEN (m .mem) i) (rd n ELEN (m .mem) i) (m .tally .flag) k (comparing (m .mem) (record { last = i; next = x; logged = m .tally .logged })))
 
 -- one more flag is used
 abbrev pub flagged : Merging → Merging

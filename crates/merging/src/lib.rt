@@ -86,37 +86,35 @@ fn tail_marked(lists: &[i64], s: &[i64], n: usize, j: usize, len: usize, flag: u
     all_marked(lists, s, n, p + 1, rest, flag)
 }
 
-// Have `i` and `j` as many elements, and is the rest of the list of `j`, of length `len`, marked?
+// Has `j` as many elements as `elen`, and is the rest of its list, of length `len`, marked?
 fn same_elements(
     lists: &[i64],
     s: &[i64],
     n: usize,
-    i: usize,
     j: usize,
     len: usize,
+    elen: usize,
     flag: usize,
 ) -> bool
-    requires { ⌜ Room n (now s) × Rows n (now lists) × (i < n) × (j < n) ⌝ }
-    ensures { λ r. ⌜ r ≡ sameElements (now (lists .entry)) n (now (s .entry)) i j len flag ⌝ }
+    requires { ⌜ Room n (now s) × Rows n (now lists) × (j < n) ⌝ }
+    ensures { λ r. ⌜ r ≡ sameElements (now (lists .entry)) n (now (s .entry)) j len elen flag ⌝ }
 {
-    let a = cells::get(s, n, cells::ELEN, i);
-    let b = cells::get(s, n, cells::ELEN, j);
-    if a == b {
+    let own = cells::get(s, n, cells::ELEN, j);
+    if elen == own {
         tail_marked(lists, s, n, j, len, flag)
     } else {
         false
     }
 }
 
-// Has `j` the list of `i`, whose entries are marked? Never read past the list of `j`.
-fn alike(lists: &[i64], s: &[i64], n: usize, i: usize, j: usize, flag: usize) -> bool
-    requires { ⌜ Room n (now s) × Rows n (now lists) × (i < n) × (j < n) ⌝ }
-    ensures { λ r. ⌜ r ≡ alikeNow (now (lists .entry)) n (now (s .entry)) i j flag ⌝ }
+// Has `j` the list whose entries are marked, of length `len` with `elen` elements? Never read past the list of `j`.
+fn alike(lists: &[i64], s: &[i64], n: usize, j: usize, len: usize, elen: usize, flag: usize) -> bool
+    requires { ⌜ Room n (now s) × Rows n (now lists) × (j < n) ⌝ }
+    ensures { λ r. ⌜ r ≡ alikeNow (now (lists .entry)) n (now (s .entry)) j len elen flag ⌝ }
 {
-    let a = cells::get(s, n, cells::LEN, i);
-    let b = cells::get(s, n, cells::LEN, j);
-    if a == b {
-        same_elements(lists, s, n, i, j, b, flag)
+    let own = cells::get(s, n, cells::LEN, j);
+    if len == own {
+        same_elements(lists, s, n, j, own, elen, flag)
     } else {
         false
     }
@@ -172,13 +170,22 @@ fn take_next(s: &mut [i64], n: usize, i: usize, next: usize, w: Walk) -> Walk
     }
 }
 
-// The same if it has the list of `i`; if not, it is passed by.
-fn compare_next(lists: &[i64], s: &mut [i64], n: usize, i: usize, flag: usize, w: Walk) -> Walk
+// The same if it has the list of `i`, which is of length `len` with `elen` elements; if not, it is passed by.
+fn compare_next(
+    lists: &[i64],
+    s: &mut [i64],
+    n: usize,
+    i: usize,
+    len: usize,
+    elen: usize,
+    flag: usize,
+    w: Walk,
+) -> Walk
     requires { ⌜ Room n (now s) × Rows n (now lists) × (i < n) × (w .next < n) × Slight n w ⌝ }
-    ensures { λ r. ⌜ (comparing (now (s .exit)) r ≡ compared (now (lists .entry)) n i flag (comparing (now (s .entry)) w)) × Room n (now (s .exit)) × Slight n r ⌝ }
+    ensures { λ r. ⌜ (comparing (now (s .exit)) r ≡ compared (now (lists .entry)) n i len elen flag (comparing (now (s .entry)) w)) × Room n (now (s .exit)) × Slight n r ⌝ }
 {
     let next = cells::look(s, n, cells::HNEXT, w.next);
-    if alike(lists, s, n, i, w.next, flag) {
+    if alike(lists, s, n, w.next, len, elen, flag) {
         take_next(s, n, i, next, w)
     } else {
         Walk {
@@ -190,6 +197,7 @@ fn compare_next(lists: &[i64], s: &mut [i64], n: usize, i: usize, flag: usize, w
 }
 
 // Each row behind `i` in its bucket, from `behind` on and at most `k`, that has the marked entries of `i` is merged into it. The result is how many merges are logged.
+// What each is compared with is read once: a merge into `i` leaves its list as it is.
 fn merge_into(
     lists: &[i64],
     s: &mut [i64],
@@ -202,6 +210,8 @@ fn merge_into(
     requires { ⌜ Room n (now s) × Rows n (now lists) × (i < n) × (behind < 2 ^ 63) × Bounded t ⌝ }
     ensures { λ r. ⌜ (merging (now (s .exit)) (record { flag = t .flag; logged = r }) ≡ mergedInto (now (lists .entry)) n k i behind (merging (now (s .entry)) t)) × Room n (now (s .exit)) × (r < 2 ^ 63) ⌝ }
 {
+    let len = cells::get(s, n, cells::LEN, i);
+    let elen = cells::get(s, n, cells::ELEN, i);
     let mut w = Walk {
         last: i,
         next: behind,
@@ -216,7 +226,7 @@ fn merge_into(
             break w.logged;
         }
         todo -= 1;
-        w = compare_next(lists, s, n, i, t.flag, w);
+        w = compare_next(lists, s, n, i, len, elen, t.flag, w);
     }
 }
 
@@ -317,10 +327,10 @@ pub fn merge_all(
     requires { ⌜ Room n (now s) × Rows n (now lists) × Bounded start ⌝ }
     ensures { λ r. ⌜ (merging (now (s .exit)) r ≡ mergedRows (now (lists .entry)) n from k (merging (now (s .entry)) start)) × Room n (now (s .exit)) × Bounded r ⌝ }
 {
-    let m = cells::clip(lists.len(), from, k);
+    let there = cells::clip(lists.len(), from, k);
     let mut t = start;
-    for i in 0..m {
-        t = merge_row(lists, s, n, from + i, k, t);
+    for q in from..from + there {
+        t = merge_row(lists, s, n, q, k, t);
     }
     t
 }

@@ -10,9 +10,6 @@ use Rattle.merging.proofs.same_elements.Reads as same-elements-reads
 get-requires : tie.Need-get-requires
 get-requires c κs = search needs
 
-get-requires-2 : tie.Need-get-requires-2
-get-requires-2 c κs = search needs
-
 same-elements-requires : tie.Need-same-elements-requires
 same-elements-requires c κs = search needs
 
@@ -23,4 +20,4 @@ returns-2 : tie.Need-returns-2
 returns-2 c = search (needs, length-differs)
 
 pub alike-spec : {M : Type 1} → statement M
-alike-spec = tie.close (tie.spec get-requires get-requires-2 same-elements-requires returns returns-2)
+alike-spec = tie.close (tie.spec get-requires same-elements-requires returns returns-2)

@@ -10,9 +10,6 @@ use Rattle.merging.proofs.tail_marked.Reads as tail-marked-reads
 get-requires : tie.Need-get-requires
 get-requires c κs = search needs
 
-get-requires-2 : tie.Need-get-requires-2
-get-requires-2 c κs = search needs
-
 tail-marked-requires : tie.Need-tail-marked-requires
 tail-marked-requires c κs = search needs
 
@@ -23,4 +20,4 @@ returns-2 : tie.Need-returns-2
 returns-2 c = search (needs, elements-differ)
 
 pub same-elements-spec : {M : Type 1} → statement M
-same-elements-spec = tie.close (tie.spec get-requires get-requires-2 tail-marked-requires returns returns-2)
+same-elements-spec = tie.close (tie.spec get-requires tail-marked-requires returns returns-2)
