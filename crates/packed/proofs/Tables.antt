@@ -8,16 +8,18 @@ use mathlib.Core.Path.{_∙_, _≡_, ap, refl}
 use borrow.Author.Tests.{lt-ltb}
 use lib.Dec.{ltb}
 use lib.IntN.{ℤ}
+use lib.ListN.{length}
 use Rattle.plain.proofs.Logic.{cond-has}
 use Rattle.plain.proofs.Turns.{times-keeps}
 use Rattle.plain.specs.Turns.{times}
 use Rattle.cells.proofs.Laws.{mem, rd-up-field, room-yes}
 use Rattle.cells.proofs.Slices.{same?}
 use Rattle.cells.specs.Layout.{ELEN, LEN, ORD, PE, TMP, WANT}
+use Rattle.cells.specs.Rows.{clipped}
 use Rattle.cells.specs.View.{Room, at, rd, up}
 use Rattle.chain.proofs.Unlink.{removed-other}
 use Rattle.chain.specs.Model.{removed}
-use Rattle.packed.specs.Gather.{Cleared, cleared, collectedRest, droppedAll, droppedAt, droppedPart, madeRoom}
+use Rattle.packed.specs.Gather.{Cleared, absorbed, absorbedPart, cleared, collectedRest, droppedAll, madeRoom}
 use Rattle.packed.specs.Model.{Heap, heap, movedDown, movedLow, movedNew, movedNext, movedOne, packedAll, packedLow}
 use Rattle.packed.specs.Places.{due, places}
 use Rattle.packed.specs.Tray.{Tabled, counted}
@@ -60,12 +62,17 @@ module _ (n i : ℕ) where
   abbrev Kept : List ℤ → List ℤ → Type 0
   Kept s m = rd n TMP m i ≡ rd n TMP s i
 
+  kept-absorbed : (me e : ℕ) (s : List ℤ) → Kept s (absorbed n me e s)
+  unfolding absorbed
+  kept-absorbed me e s = simp mem
+
   kept-dropped : (l : List ℤ) (me : ℕ) (s : List ℤ) → Kept s (droppedAll n l me s)
-  unfolding droppedAll droppedPart droppedAt
+  unfolding droppedAll absorbedPart
   kept-dropped l me s =
-      let k = rd n ELEN s me in
-      rd-up-field n LEN TMP (times k (λ t m. up n LEN m (at l (rd n PE s me + t)) 0) s) me 0 i refl
-      ∙ times-keeps (λ t m. Kept s m) (λ t m. up n LEN m (at l (rd n PE s me + t)) 0) k (λ t m b e. rd-up-field n LEN TMP m (at l (rd n PE s me + t)) 0 i refl ∙ e) k s (omega arith) refl
+      let p = rd n PE s me in
+      let k = clipped (length l) p (rd n ELEN s me) in
+      rd-up-field n LEN TMP (times k (λ t. absorbed n me (at l (p + t))) s) me 0 i refl
+      ∙ times-keeps (λ t m. Kept s m) (λ t. absorbed n me (at l (p + t))) k (λ t m b e. kept-absorbed me (at l (p + t)) m ∙ e) k s (omega arith) refl
 
   kept-one : (top j : ℕ) (m : Heap) → Kept (m .mem) (movedOne n top j m .mem)
   unfolding movedOne movedDown
