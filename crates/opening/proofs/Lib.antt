@@ -1,9 +1,7 @@
 -- The modules of `opening` that belong to no one function.
 pub mod Steps
-pub mod Kept
 pub mod Rows
 pub mod Opening
-pub mod Taking
 pub mod Shown
 pub mod Gathering
 pub mod Pivoting

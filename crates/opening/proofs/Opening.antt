@@ -5,7 +5,7 @@ use native.Mathlib.Omega.{arith}
 use mathlib.Core.Path.{_≡_, refl, sym, ap, _∙_}
 use mathlib.Core.Logic.{_≢_, _⊎_, inl, inr}
 use mathlib.Core.Bool.{Bool, true, false, cond, not, _&&_, _||_, false≢true}
-use mathlib.Core.List.{List, [], _∷_, _++_, append-nil}
+use mathlib.Core.List.{List, [], _∷_}
 use mathlib.Core.Option.{none}
 use borrow.Author.Tests.{eq-eqb, ne-eqb}
 use lib.Dec.{eqb, ltb}
@@ -16,9 +16,9 @@ use Rattle.plain.proofs.Entries.{entries-none}
 use Rattle.plain.proofs.Members.{member-below, no-member}
 use Rattle.plain.proofs.Positions.{getD-same}
 use Rattle.plain.proofs.Sums.{total-add, total-keep, total-members, total-ones}
-use Rattle.plain.specs.Lists.{keep, member, total, upTo}
+use Rattle.plain.specs.Lists.{keep, total, upTo}
 use Rattle.plain.specs.Turns.{entries}
-use Rattle.definition.specs.State.{Graph, Kind, variable, merged, element, dense, atOnce, degree, denseRows, elementsOf, hasWeight, isDense, isElement, isMerged, isVariable, kind, live, parent, queueOf, rowCount, startDegree, startKind, startWeight, started, variablesOf, weight}
+use Rattle.definition.specs.State.{Graph, Kind, variable, merged, element, dense, atOnce, degree, denseRows, isDense, isElement, isVariable, kind, parent, queueOf, startDegree, startKind, startWeight, started}
 use Rattle.facts.proofs.Invariant.{var-not-merged}
 use Rattle.facts.proofs.Sizes.{sized-started}
 use Rattle.facts.proofs.Start.{Neighbourly, degree-is, element-empty, elements-is, kind-in, kind-inside, kind-out, live-is, start-not-merged, variables-is, weight-is}
@@ -28,18 +28,17 @@ use Rattle.cells.specs.Layout.{PE, LEN, WANT, ELEN, DEGREE, W, NEXT, LAST, HEAD
 use Rattle.cells.specs.Links as links
 use Rattle.cells.specs.View.{Room, at, rd}
 use Rattle.chain.proofs.Frame.{chained-same}
-use Rattle.chain.proofs.Opening.{enlisted-degrees, enlisted-other, enlisted-parent, enlisted-room, opened-start}
+use Rattle.chain.proofs.Opening.{enlisted-degrees, enlisted-other, enlisted-room, opened-start}
 use Rattle.chain.specs.Chained.{Chained}
 use Rattle.chain.specs.Model.{enlistedAll}
 use Rattle.packed.proofs.Beginning.{space-packed}
 use Rattle.packed.proofs.Packing.{live-below}
-use Rattle.packed.proofs.Spaces.{space-same}
+use Rattle.packed.proofs.Spaces.{space-left, space-same}
 use Rattle.packed.specs.Places.{Space, sumTo}
-use Rattle.drawn.specs.Drawn.{Drawn, Rest, listOf}
+use Rattle.drawn.specs.Drawn.{Rest, listOf}
 use Rattle.drawn.specs.Flags.{Flagged}
 use Rattle.drawn.specs.Log.{Logged}
-use Rattle.opening.specs.Start.{Setting, begunAll, opened, setAll}
-use Rattle.opening.proofs.Kept.{space-kept}
+use Rattle.opening.specs.Start.{begunAll, opened}
 use Rattle.opening.proofs.Rows.{Begun, Placed, SetTo, begun-all, set-all, sort}
 
 -- what a kind tells of the degree
@@ -185,7 +184,7 @@ module _ (limit : ℕ) (nbrs : List (List ℕ)) (nb : Neighbourly nbrs) (l s : L
 
   space₃ : Space n (listOf g) l s₃ 0 (total length nbrs) (total length nbrs)
   space₃ =
-      space-kept n X (listOf g) l s₂ s₃ 0 (total length nbrs) (total length nbrs) space₂ (a .room)
+      space-left n X (listOf g) l s₂ s₃ 0 (total length nbrs) (total length nbrs) space₂ (a .room)
       (λ i p. let q = is-variable i p in (row i (q .0) .place (ap isVariable (q .1)), len-variable i (q .0) (q .1)))
       (λ t. a .keeps ORD t refl refl refl refl refl refl)
       (λ i p. list-variable i (is-variable i p .1))

@@ -29,7 +29,7 @@ use Rattle.facts.specs.Invariant.{Inv, Var}
 use Rattle.cells.proofs.Fields.{room-up}
 use Rattle.cells.proofs.Laws.{mem, room-yes}
 use Rattle.cells.proofs.Slices.{same?}
-use Rattle.cells.specs.Layout.{PE, LEN, WANT, ELEN, DEGREE, W, NEXT, LAST, HEAD, HHEAD, HNEXT, TMP, ORD, MERGES, NV}
+use Rattle.cells.specs.Layout.{PE, LEN, WANT, ELEN, DEGREE, W, NEXT, LAST, HEAD, HHEAD, TMP, ORD, MERGES, NV}
 use Rattle.cells.specs.Links.{parent}
 use Rattle.cells.specs.View.{Room, at, rd, up}
 use Rattle.chain.proofs.Alike.{chained-alike}
@@ -109,8 +109,8 @@ module _ (n : ℕ) (l s : List ℤ) (t : State) (inv : Inv n t) (wd : Weighed t)
 
   -- the fields that neither a list nor a gather changes
   same₃ : (f i : ℕ) → eqb HEAD f ≡ false → eqb NEXT f ≡ false → eqb LAST f ≡ false → eqb WANT f ≡ false → eqb PE f ≡ false → eqb LEN f ≡ false → eqb TMP f ≡ false
-      → eqb ORD f ≡ false → eqb W f ≡ false → eqb HNEXT f ≡ false → rd n f (x .mem) i ≡ rd n f s i
-  same₃ f i a b e w q u v o z y = c .fields f i q u w v o z y a b e ∙ same₂ f i a b e w
+      → eqb ORD f ≡ false → eqb W f ≡ false → rd n f (x .mem) i ≡ rd n f s i
+  same₃ f i a b e w q u v o z = c .fields f i q u w v o z a b e ∙ same₂ f i a b e w
 
   new-there : entries (at (x .lists)) (x .made .start) (x .made .count) ≡ new
   new-there =
@@ -175,11 +175,11 @@ module _ (n : ℕ) (l s : List ℤ) (t : State) (inv : Inv n t) (wd : Weighed t)
   begun-drawn =
       record {
         space = c .space;
-        weights = λ v h. same₃ NV v refl refl refl refl refl refl refl refl refl refl ∙ dr .weights v h ∙ sym (weight-passed n t inv p pv v);
+        weights = λ v h. same₃ NV v refl refl refl refl refl refl refl refl refl ∙ dr .weights v h ∙ sym (weight-passed n t inv p pv v);
         wants = wants₃;
-        elens = λ v h. same₃ ELEN v refl refl refl refl refl refl refl refl refl refl ∙ dr .elens v (sym (ap isVariable (kind-passed n t inv p pv v)) ∙ h)
+        elens = λ v h. same₃ ELEN v refl refl refl refl refl refl refl refl refl ∙ dr .elens v (sym (ap isVariable (kind-passed n t inv p pv v)) ∙ h)
             ∙ sym (ap length (elements-passed n t inv p pv v));
-        degrees = λ v h. same₃ DEGREE v refl refl refl refl refl refl refl refl refl refl ∙ dr .degrees v h ∙ sym (degree-passed n t inv p pv v);
+        degrees = λ v h. same₃ DEGREE v refl refl refl refl refl refl refl refl refl ∙ dr .degrees v h ∙ sym (degree-passed n t inv p pv v);
         parents = λ v h z. parent-by v h z (same? v p) (member v es) refl;
       }
 
@@ -236,7 +236,7 @@ module _ (n : ℕ) (l s : List ℤ) (t : State) (inv : Inv n t) (wd : Weighed t)
   unfolding begin.pivoted
   begun-log ms f =
       record {
-        log = entries-same (rd n MERGES s) (rd n MERGES (x .mem)) 0 0 (length ms) (λ i h. same₃ MERGES (0 + i) refl refl refl refl refl refl refl refl refl refl) ∙ f .log;
+        log = entries-same (rd n MERGES s) (rd n MERGES (x .mem)) 0 0 (length ms) (λ i h. same₃ MERGES (0 + i) refl refl refl refl refl refl refl refl refl) ∙ f .log;
         once = f .once;
         inside = λ v m. let a = f .inside v m in (a .0, ap isMerged (kind-passed n t inv p pv v) ∙ a .1);
         all = λ v h e. f .all v h (sym (ap isMerged (kind-passed n t inv p pv v)) ∙ e);
@@ -249,11 +249,11 @@ module _ (n : ℕ) (l s : List ℤ) (t : State) (inv : Inv n t) (wd : Weighed t)
 
   pub begun-keys : (v : ℕ) → rd n HHEAD (begin.pivoted n p base lim made l s .mem) v ≡ rd n HHEAD s v
   unfolding begin.pivoted
-  begun-keys v = same₃ HHEAD v refl refl refl refl refl refl refl refl refl refl
+  begun-keys v = same₃ HHEAD v refl refl refl refl refl refl refl refl refl
 
   -- every field that neither a list nor a gather changes
   pub begun-fields : (f i : ℕ) → eqb HEAD f ≡ false → eqb NEXT f ≡ false → eqb LAST f ≡ false → eqb WANT f ≡ false → eqb PE f ≡ false → eqb LEN f ≡ false → eqb TMP f ≡ false
-      → eqb ORD f ≡ false → eqb W f ≡ false → eqb HNEXT f ≡ false → rd n f (begin.pivoted n p base lim made l s .mem) i ≡ rd n f s i
+      → eqb ORD f ≡ false → eqb W f ≡ false → rd n f (begin.pivoted n p base lim made l s .mem) i ≡ rd n f s i
   unfolding begin.pivoted
   begun-fields = same₃
 

@@ -2,23 +2,23 @@
 -- Assumes nothing.
 use Prim.Native.Nat.{ℕ, suc, _+_, _<_, _^_, _≤_}
 use native.Mathlib.Omega.{arith}
-use mathlib.Core.Path.{_≡_, refl, sym, ap, subst, _∙_}
+use mathlib.Core.Path.{_≡_, refl, sym, ap, _∙_}
 use mathlib.Core.Logic.{_≢_, _⊎_, inl, inr}
 use mathlib.Core.Bool.{Bool, true, false, cond, false≢true}
 use mathlib.Core.List.{List}
-use mathlib.Core.Option.{Option, none, some}
+use mathlib.Core.Option.{none, some}
 use borrow.Author.Tests.{lt-ltb, le-ltb, eq-eqb, ne-eqb}
 use lib.Dec.{eqb, ltb}
 use lib.IntN.{ℤ}
 use Rattle.plain.proofs.Turns.{times-keeps}
-use Rattle.definition.specs.State.{Kind, variable, merged, element, dense, isVariable, isElement, isDense, startWeight}
+use Rattle.definition.specs.State.{Kind, variable, element, dense, isVariable, isElement, isDense, startWeight}
 use Rattle.cells.proofs.Fields.{room-up}
 use Rattle.cells.proofs.Laws.{mem, room-yes}
 use Rattle.cells.proofs.Parents.{room-hang}
 use Rattle.cells.proofs.Slices.{plus-sum, same?, split}
 use Rattle.cells.specs.Layout.{PE, LEN, WANT, ELEN, DEGREE, W, HHEAD, NV}
-use Rattle.cells.specs.Links.{hang, named, parent}
-use Rattle.cells.specs.View.{Room, plus, rd, up}
+use Rattle.cells.specs.Links.{named, parent}
+use Rattle.cells.specs.View.{Room, plus, rd}
 use Rattle.packed.proofs.Sums.{sum-more, sum-none}
 use Rattle.packed.specs.Places.{sumTo}
 use Rattle.opening.specs.Start.{weighed, marked, begun, begunAll, rooted, leftOut, Setting, setting, setDense, setRoot, setOne, setAll}

@@ -1,29 +1,29 @@
 -- What a gather finds in a memory that shows a graph: the lists of the pivot and of its elements, and who is wanted.
 -- Assumes nothing.
-use Prim.Native.Nat.{ℕ, _+_, _<_, _≤_}
+use Prim.Native.Nat.{ℕ, _<_, _≤_}
 use native.Mathlib.Omega.{arith}
 use mathlib.Core.Path.{_≡_, refl, sym, ap, _∙_}
 use mathlib.Core.Logic.{_≢_, _⊎_, inl, inr}
 use mathlib.Core.Bool.{Bool, true, false, cond, not, _&&_}
-use mathlib.Core.List.{List, [], _∷_, _++_, flatMap}
-use mathlib.Core.Option.{Option, none, some}
+use mathlib.Core.List.{List, [], _++_, flatMap}
+use mathlib.Core.Option.{some}
 use borrow.Author.Tests.{lt-ltb}
 use lib.Dec.{eqb, ltb}
 use lib.IntN.{ℤ}
 use lib.ListN.{length, length-append, getD, List·getD-eq-default}
 use Rattle.plain.proofs.Entries.{upd-other, upd-same}
-use Rattle.plain.proofs.Logic.{either, or-cases}
+use Rattle.plain.proofs.Logic.{or-cases}
 use Rattle.plain.proofs.Members.{member-append, member-flatMap}
-use Rattle.plain.specs.Lists.{isNone, member, total, upTo}
+use Rattle.plain.specs.Lists.{member}
 use Rattle.plain.specs.Members.{In}
 use Rattle.plain.specs.Turns.{upd}
-use Rattle.definition.specs.Pivot.{candidates, collected, passed}
+use Rattle.definition.specs.Pivot.{candidates, passed}
 use Rattle.definition.specs.Room.{allPlaces, places}
-use Rattle.definition.specs.State.{Graph, Kind, State, merged, degree, elementsOf, hasWeight, isElement, isVariable, kind, live, parent, rowCount, variablesOf, weight}
+use Rattle.definition.specs.State.{Graph, Kind, State, merged, degree, elementsOf, hasWeight, isElement, isVariable, kind, live, parent, variablesOf, weight}
 use Rattle.facts.proofs.Invariant.{element-inside, var-elsewhere, var-inside, var-weighs}
-use Rattle.facts.proofs.Rows.{SameRows, parent-passed, same-passed}
+use Rattle.facts.proofs.Rows.{parent-passed, same-passed}
 use Rattle.facts.proofs.Weighed.{Weighed}
-use Rattle.facts.specs.Invariant.{Inv, Live, Quotient, Var}
+use Rattle.facts.specs.Invariant.{Inv, Quotient, Var}
 use Rattle.cells.proofs.Slices.{same?, split}
 use Rattle.cells.specs.Layout.{WANT}
 use Rattle.cells.specs.View.{rd}

@@ -1,18 +1,17 @@
 -- The code's steps are the model's: one law for each way out of a function, its premises in the words of what was called.
 -- Assumes nothing.
 use Prim.Native.Nat.{ℕ, _<_, _≤_}
-use mathlib.Core.Path.{_≡_, ap}
+use mathlib.Core.Path.{_≡_}
 use mathlib.Core.List.{List}
 use borrow.Author.Tests.{lt-ltb, le-ltb}
 use lib.IntN.{ℤ}
-use Rattle.cells.specs.Layout.{PE, LEN, WANT, ELEN, DEGREE, W, HHEAD, HNEXT, NV}
-use Rattle.cells.specs.View.{at, plus, rd, up}
+use Rattle.cells.specs.Layout.{PE, LEN, WANT, ELEN, DEGREE, W, HHEAD, NV}
+use Rattle.cells.specs.View.{plus, rd, up}
 use Rattle.cells.specs.Links.{hang, named}
 use Rattle.chain.specs.Model.{enlistedAll, removed}
-use Rattle.packed.specs.Gather.{Inside, Outside, inside, outside, gatheredInside, gatheredOutside}
-use Rattle.packed.specs.declared.Made.{Made}
+use Rattle.packed.specs.Gather.{Outside, inside, outside, gatheredInside, gatheredOutside}
 use Rattle.opening.specs.Start.{weighed, marked, begun, begunAll, rooted, leftOut, Setting, setting, setDense, setRoot, setOne, setAll, opened}
-use Rattle.opening.specs.Begin.{savedAll, absorbed, absorbedOne, absorbedAll, gatheredWith, gatheredAlone, gathered, pivoted}
+use Rattle.opening.specs.Begin.{gatheredAlone, gathered, pivoted}
 use Rattle.opening.specs.declared.Aside.{Aside}
 
 -- ---- the start
@@ -59,33 +58,17 @@ open-step n limit s t u x ht hu hx = rw (← ht, ← hu) hx
 
 -- ---- a pivot's beginning
 
-pub save-step : (n : ℕ) (l s : List ℤ) (q t e : ℕ) (r : List ℤ) → e ≡ at l q → r ≡ up n HNEXT s t e → r ≡ up n HNEXT s t (at l q)
-save-step n l s q t e r he hr = rw (← he) hr
-
-pub absorb-step : (n me e : ℕ) (s t r : List ℤ) → t ≡ up n W s e 0 → r ≡ hang n t e (named n me) → r ≡ absorbed n me e s
-unfolding absorbed
-absorb-step n me e s t r ht hr = rw (← ht) hr
-
-pub absorb-at-step : (n me t : ℕ) (s : List ℤ) (e : ℕ) (r : List ℤ) → e ≡ rd n HNEXT s t → r ≡ absorbed n me e s → r ≡ absorbedOne n me t s
-unfolding absorbedOne
-absorb-at-step n me t s e r he hr = rw (← he) hr
-
 pub leave-step : (n me : ℕ) (s t r : List ℤ) → t ≡ removed n s me → r ≡ up n WANT t me 0 → r ≡ up n WANT (removed n s me) me 0
 leave-step n me s t r ht hr = rw (← ht) hr
 
 module _ (n me base lim made : ℕ) (l s : List ℤ) where
-  pub with-step : (k p : ℕ) (s₁ l₂ s₂ s₃ : List ℤ) (r : Made) → p ≡ rd n PE s me → s₁ ≡ savedAll n l p k s
-      → outside l₂ s₂ r ≡ gatheredOutside n me base lim made l s₁ → s₃ ≡ absorbedAll n me k s₂ → outside l₂ s₃ r ≡ gatheredWith n me k base lim made l s
-  unfolding gatheredWith
-  with-step k p s₁ l₂ s₂ s₃ r hp hs hg ha = rw (← hp, ← hs, ← hg, ha)
-
   pub alone-step : (p : ℕ) (l₁ s₁ : List ℤ) (c : ℕ) (s₂ : List ℤ) → p ≡ rd n PE s me → inside l₁ s₁ c ≡ gatheredInside n me l s → s₂ ≡ up n PE s₁ me p
       → outside l₁ s₂ (record { start = p; count = c; free = lim; base = base; made = made; collected = 0 }) ≡ gatheredAlone n me base lim made l s
   unfolding gatheredAlone
   alone-step p l₁ s₁ c s₂ hp hg hs = rw (← hp, ← hg, hs)
 
   module _ (k : ℕ) (hk : k ≡ rd n ELEN s me) (x : Outside) where
-    pub some-step : x ≡ gatheredWith n me k base lim made l s → 0 < k → x ≡ gathered n me base lim made l s
+    pub some-step : x ≡ gatheredOutside n me base lim made l s → 0 < k → x ≡ gathered n me base lim made l s
     unfolding gathered
     some-step hx b = rw (← hk, lt-ltb 0 k b) hx
 

@@ -1,11 +1,11 @@
 -- The table of made elements: the pivot is not in it, there is a place for the pivot, and the pivot's turn is the next.
 -- Assumes nothing.
-use Prim.Native.Nat.{ℕ, suc, _+_, _<_, _≤_}
+use Prim.Native.Nat.{ℕ, suc, _<_, _≤_}
 use native.Mathlib.Omega.{arith}
-use mathlib.Core.Path.{_≡_, refl, sym, ap, _∙_}
+use mathlib.Core.Path.{_≡_, sym, ap, _∙_}
 use mathlib.Core.Logic.{_≢_, _⊎_, inl, inr}
 use mathlib.Core.Bool.{true, false, false≢true}
-use mathlib.Core.List.{List, [], _∷_, map}
+use mathlib.Core.List.{List, map}
 use lib.IntN.{ℤ}
 use lib.ListN.{length}
 use Rattle.plain.proofs.Entries.{entries-counted, entries-length}
@@ -14,7 +14,6 @@ use Rattle.plain.proofs.Members.{map-was, member-below}
 use Rattle.plain.proofs.Repeats.{distinct-countUp, distinct-map, length-missing}
 use Rattle.plain.specs.Lists.{member, upTo}
 use Rattle.plain.specs.Members.{Distinct, In}
-use Rattle.plain.specs.Turns.{entries}
 use Rattle.definition.specs.State.{Graph, isElement, kind}
 use Rattle.facts.proofs.Invariant.{element-inside, var-inside, var-not-element}
 use Rattle.facts.specs.Invariant.{Quotient, Var}

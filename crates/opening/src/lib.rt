@@ -2,14 +2,14 @@
 // a row without neighbours is an element at once, and a dense row leaves. Then, for each pivot, its new element is gathered, whose rows leave their degree lists, and
 // its elements are taken up by it. A contract is the function's own model, and the laws of `proofs/` say what it does.
 ghost use mathlib.Core.Path.{_≡_};
-ghost use Prim.Native.Nat.{_+_, _<_, _^_};
-ghost use Rattle.cells.specs.View.{Room, at, up};
+ghost use Prim.Native.Nat.{_<_, _^_};
+ghost use Rattle.cells.specs.View.{Room, up};
 ghost use Rattle.cells.specs.Rows.{Rows};
-ghost use Rattle.cells.specs.Layout.{HNEXT, WANT};
+ghost use Rattle.cells.specs.Layout.{WANT};
 ghost use Rattle.chain.specs.Model.{removed};
 ghost use Rattle.packed.specs.Gather.{outside, Brief};
 ghost use Rattle.opening.specs.Start.{weighed, marked, begun, begunAll, rooted, leftOut, setting, Slight, setOne, setAll, opened};
-ghost use Rattle.opening.specs.Begin.{savedAll, absorbed, absorbedOne, absorbedAll, gatheredWith, gatheredAlone, gathered, pivoted};
+ghost use Rattle.opening.specs.Begin.{gatheredAlone, gathered, pivoted};
 
 // ---- the start
 
@@ -132,74 +132,6 @@ pub fn start(s: &mut [i64], n: usize, limit: usize) -> Aside
 
 // ---- a pivot's beginning
 
-// The number in cell `q` is kept at `t` of the table HNEXT, which nothing reads before a key is written.
-fn save_at(lists: &[i64], s: &mut [i64], n: usize, q: usize, t: usize)
-    requires { ⌜ Room n (now s) ⌝ }
-    ensures { λ _. ⌜ (now (s .exit) ≡ up n HNEXT (now (s .entry)) t (at (now (lists .entry)) q)) × Room n (now (s .exit)) ⌝ }
-{
-    let e = cells::peek(lists, q);
-    cells::put(s, n, cells::HNEXT, t, e);
-}
-
-// The same of each of the `k` numbers from `p` on, since the gather may overwrite them.
-fn save(lists: &[i64], s: &mut [i64], n: usize, p: usize, k: usize)
-    requires { ⌜ Room n (now s) × (p < 2 ^ 63) × (k < 2 ^ 63) ⌝ }
-    ensures { λ _. ⌜ (now (s .exit) ≡ savedAll n (now (lists .entry)) p k (now (s .entry))) × Room n (now (s .exit)) ⌝ }
-{
-    for t in 0..k {
-        save_at(lists, s, n, p + t, t);
-    }
-}
-
-// Element `e` is no more: the new element `me` took it up.
-fn absorb(s: &mut [i64], n: usize, me: usize, e: usize)
-    requires { ⌜ Room n (now s) ⌝ }
-    ensures { λ _. ⌜ (now (s .exit) ≡ absorbed n me e (now (s .entry))) × Room n (now (s .exit)) ⌝ }
-{
-    cells::up(s, n, cells::W, e, 0);
-    cells::put_parent(s, n, e, me);
-}
-
-// The same of the element that was kept at `t`.
-fn absorb_at(s: &mut [i64], n: usize, me: usize, t: usize)
-    requires { ⌜ Room n (now s) ⌝ }
-    ensures { λ _. ⌜ (now (s .exit) ≡ absorbedOne n me t (now (s .entry))) × Room n (now (s .exit)) ⌝ }
-{
-    let e = cells::tab(s, n, cells::HNEXT, t);
-    absorb(s, n, me, e);
-}
-
-// The same of the first `k`.
-fn absorb_all(s: &mut [i64], n: usize, me: usize, k: usize)
-    requires { ⌜ Room n (now s) ⌝ }
-    ensures { λ _. ⌜ (now (s .exit) ≡ absorbedAll n me k (now (s .entry))) × Room n (now (s .exit)) ⌝ }
-{
-    for t in 0..k {
-        absorb_at(s, n, me, t);
-    }
-}
-
-// The new element of a pivot with `k` elements, which it takes up.
-fn gather_with(
-    lists: &mut [i64],
-    s: &mut [i64],
-    n: usize,
-    me: usize,
-    k: usize,
-    base: usize,
-    lim: usize,
-    made: usize,
-) -> packed::Made
-    requires { ⌜ Room n (now s) × Rows n (now lists) × (me < n) × (k < 2 ^ 63) × (lim < 2 ^ 63) × (made < 2 ^ 63) ⌝ }
-    ensures { λ r. ⌜ (outside (now (lists .exit)) (now (s .exit)) r ≡ gatheredWith n me k base lim made (now (lists .entry)) (now (s .entry))) × Room n (now (s .exit)) × Rows n (now (lists .exit)) × Brief r ⌝ }
-{
-    let p = cells::get(s, n, cells::PE, me);
-    save(lists, s, n, p, k);
-    let r = packed::gather_outside(lists, s, n, me, base, lim, made);
-    absorb_all(s, n, me, k);
-    r
-}
-
 // The new element of a pivot without elements, in its own place, which is stored anew: whoever asks for a parent there finds none.
 fn gather_alone(
     lists: &mut [i64],
@@ -226,7 +158,7 @@ fn gather_alone(
     }
 }
 
-// The new element of either.
+// The new element of a pivot: one with elements takes them up, and gets a place behind all others.
 fn gather(
     lists: &mut [i64],
     s: &mut [i64],
@@ -241,7 +173,7 @@ fn gather(
 {
     let k = cells::get(s, n, cells::ELEN, me);
     if 0 < k {
-        gather_with(lists, s, n, me, k, base, lim, made)
+        packed::gather_outside(lists, s, n, me, base, lim, made)
     } else {
         gather_alone(lists, s, n, me, base, lim, made)
     }

@@ -6,20 +6,24 @@ use mathlib.Core.Path.{_≡_, ap}
 use borrow.Author.Tests.{le-ltb, lt-ltb}
 use lib.IntN.{ℤ}
 use lib.ListN.{length}
-use Rattle.cells.specs.Layout.{ELEN, LEN, PE}
+use Rattle.cells.specs.Layout.{ELEN, LEN, PE, W}
+use Rattle.cells.specs.Links.{hang, named}
 use Rattle.cells.specs.View.{at, plus, rd, up}
-use Rattle.packed.specs.Gather.{Cleared, addedLength, allLengths, cleared, collectedRest, droppedAll, droppedAt, droppedPart, gatheredInside, gatheredOutside, inside, madeRoom, outside, replaced, settled, summed}
+use Rattle.packed.specs.Gather.{Cleared, absorbed, absorbedPart, addedLength, allLengths, cleared, collectedRest, droppedAll, gatheredInside, gatheredOutside, inside, madeRoom, outside, replaced, settled, summed}
 use Rattle.packed.specs.Model.{Heap, entered, heap, laid, packedAll, packedLow}
 use Rattle.packed.specs.Tray.{emptyTray, taking, tookAll, tookPart}
 use Rattle.packed.specs.declared.Tray.{Tray}
 use Rattle.packed.specs.declared.Ends.{Ends}
 use Rattle.packed.specs.declared.Made.{Made}
 
-pub drop-step : (n : ℕ) (l : List ℤ) (q : ℕ) (s : List ℤ) (e : ℕ) (r : List ℤ) → e ≡ at l q → r ≡ up n LEN s e 0 → r ≡ droppedAt n l q s
-unfolding droppedAt
-drop-step n l q s e r he hr = rw (← he) hr
+pub absorb-step : (n me e : ℕ) (s a b r : List ℤ) → a ≡ up n W s e 0 → b ≡ up n LEN a e 0 → r ≡ hang n b e (named n me) → r ≡ absorbed n me e s
+unfolding absorbed
+absorb-step n me e s a b r ha hb hr = rw (← ha, ← hb) hr
 
-pub dropall-step : (n : ℕ) (l : List ℤ) (me : ℕ) (s : List ℤ) (p k : ℕ) (a r : List ℤ) → p ≡ rd n PE s me → k ≡ rd n ELEN s me → a ≡ droppedPart n l p k s
+pub absorb-at-step : (n me : ℕ) (l : List ℤ) (q : ℕ) (s : List ℤ) (e : ℕ) (r : List ℤ) → e ≡ at l q → r ≡ absorbed n me e s → r ≡ absorbed n me (at l q) s
+absorb-at-step n me l q s e r he hr = rw (← he) hr
+
+pub dropall-step : (n : ℕ) (l : List ℤ) (me : ℕ) (s : List ℤ) (p k : ℕ) (a r : List ℤ) → p ≡ rd n PE s me → k ≡ rd n ELEN s me → a ≡ absorbedPart n l me p k s
     → r ≡ up n LEN a me 0 → r ≡ droppedAll n l me s
 unfolding droppedAll
 dropall-step n l me s p k a r hp hk ha hr = rw (← hp, ← hk, ← ha) hr

@@ -3,26 +3,26 @@
 -- Assumes nothing.
 use Prim.Native.Nat.{_+_, _-_, _<_, _^_, _≤_, suc, ℕ}
 use native.Mathlib.Omega.{arith}
-use mathlib.Core.Bool.{Bool, _||_, cond, false, true}
-use mathlib.Core.List.{List, [], _++_, _∷_, flatMap, foldl}
+use mathlib.Core.Bool.{Bool, cond, false, true}
+use mathlib.Core.List.{List, [], _++_, flatMap, foldl}
 use mathlib.Core.Logic.{_≢_, _⊎_, inl, inr, ⊎-elim}
+use mathlib.Core.Option.{some}
 use mathlib.Core.Path.{_∙_, _≡_, ap, refl, subst⁻¹, sym}
 use borrow.Author.Tests.{lt-ltb}
 use lib.Dec.{eqb}
 use lib.IntN.{ℤ}
 use lib.ListN.{List·getD-eq-default, getD, length, length-append, length-map}
 use Rattle.plain.proofs.Entries.{entries-same, upd-other, upd-same}
-use Rattle.plain.proofs.Members.{append-either, member-append, member-cases, member-nil, no-member, not-cons}
-use Rattle.plain.proofs.Repeats.{distinct-snoc, length-below}
-use Rattle.plain.proofs.Sums.{total-append, total-one}
+use Rattle.plain.proofs.Members.{apart}
+use Rattle.plain.proofs.Repeats.{length-below}
 use Rattle.plain.specs.Lists.{member, total}
 use Rattle.plain.specs.Members.{Distinct, In}
 use Rattle.plain.specs.Turns.{entries, firsts, upd}
 use Rattle.definition.specs.Room.{Read}
 use Rattle.cells.proofs.Slices.{plus-sum, same?, split}
-use Rattle.cells.specs.Layout.{DEGREE, ELEN, HEAD, LAST, LEN, NEXT, ORD, PE, TMP, WANT}
+use Rattle.cells.specs.Layout.{DEGREE, ELEN, HEAD, LAST, LEN, NEXT, ORD, PE, TMP, W, WANT}
 use Rattle.cells.specs.Links.{parent}
-use Rattle.cells.specs.View.{at, plus, rd, up}
+use Rattle.cells.specs.View.{at, plus, rd}
 use Rattle.chain.proofs.Alike.{Alike, alike-then}
 use Rattle.chain.specs.Model.{removed}
 use Rattle.packed.specs.Gather.{Cleared, Outside, allLengths, cleared, collectedRest, droppedAll, gatheredOutside, madeRoom, settled, summed}
@@ -31,14 +31,14 @@ use Rattle.packed.specs.Places.{Owns, Space, places, sumTo}
 use Rattle.packed.specs.Reading.{afterParts, entriesOf, picked, readAll, sofarOf}
 use Rattle.packed.specs.Tray.{taking, tookAll}
 use Rattle.packed.proofs.Collection.{collected}
-use Rattle.packed.proofs.Dropping.{Dropped, dropped-all, dropped-fold, except, lengths-sum, space-fold, sum-without}
+use Rattle.packed.proofs.Dropping.{Dropped, dropped-all, dropped-space, except, lengths-sum, sum-without}
 use Rattle.packed.proofs.Frame.{len-of}
 use Rattle.packed.proofs.Gathers.{room-no-step, room-yes-step}
 use Rattle.packed.proofs.Picked.{after-is, picked-new}
-use Rattle.packed.proofs.Readings.{first-part, holds-all}
+use Rattle.packed.proofs.Readings.{first-inside, first-part, holds-all}
 use Rattle.packed.proofs.Settling.{Ready, Settled, settled-there}
 use Rattle.packed.proofs.Spaces.{space-renamed, space-same}
-use Rattle.packed.proofs.Sums.{sum-same}
+use Rattle.packed.proofs.Sums.{sum-change, sum-same}
 use Rattle.packed.proofs.Taking.{Holds, wants}
 use Rattle.packed.specs.declared.Tray.{Tray}
 
@@ -59,11 +59,14 @@ pub record Gathered (n : ℕ) (X : ℕ → List ℕ) (l s : List ℤ) (made base
   pub last : rd n ORD (m .mem) made ≡ me
   -- the rows that were collected left their degree lists
   pub queues : Alike n (foldl (λ a v. removed n a v) s (entriesOf q)) (m .mem)
-  pub fields : (f i : ℕ) → eqb PE f ≡ false → eqb LEN f ≡ false → eqb WANT f ≡ false → eqb TMP f ≡ false → eqb ORD f ≡ false → eqb HEAD f ≡ false → eqb NEXT f ≡ false
-      → eqb LAST f ≡ false → rd n f (m .mem) i ≡ rd n f s i
-  -- what is dead keeps its place and its parent
-  pub dead : (i : ℕ) → i ≢ me → rd n LEN (m .mem) i ≡ 0 → rd n PE (m .mem) i ≡ rd n PE s i
-  pub parents : (i : ℕ) → i ≢ me → rd n LEN (m .mem) i ≡ 0 → parent n (m .mem) i ≡ parent n s i
+  pub fields : (f i : ℕ) → eqb PE f ≡ false → eqb LEN f ≡ false → eqb WANT f ≡ false → eqb TMP f ≡ false → eqb ORD f ≡ false → eqb W f ≡ false → eqb HEAD f ≡ false
+      → eqb NEXT f ≡ false → eqb LAST f ≡ false → rd n f (m .mem) i ≡ rd n f s i
+  -- me took up its elements
+  pub w : (i : ℕ) → rd n W (m .mem) i ≡ except (rd n W s) es 0 i
+  pub taken : (i : ℕ) → In i es → parent n (m .mem) i ≡ some me
+  -- what else is dead keeps its place and its parent
+  pub dead : (i : ℕ) → i ≢ me → member i es ≡ false → rd n LEN (m .mem) i ≡ 0 → rd n PE (m .mem) i ≡ rd n PE s i
+  pub parents : (i : ℕ) → i ≢ me → member i es ≡ false → rd n LEN (m .mem) i ≡ 0 → parent n (m .mem) i ≡ parent n s i
   -- there is a place for each: no collection
   pub kept : length q ≤ length l - lim → (m .made .start ≡ lim) × (m .made .base ≡ base) × (m .made .collected ≡ 0)
   -- there is not: one, at the entry number length l - lim, counted from 0
@@ -86,43 +89,30 @@ module _ (n : ℕ) (X : ℕ → List ℕ) (l s : List ℤ) (made base lim : ℕ)
     abbrev L : ℕ → ℕ
     L i = length (X i)
 
-    abbrev gone : List ℕ
-    gone = es ++ (me ∷ [])
-
-    gone-once : Distinct gone
-    gone-once = distinct-snoc me es once away
-
-    gone-low : (x : ℕ) → In x gone → x < n
-    gone-low x h = ⊎-elim (λ a. low x a) (λ a. member-cases (x < n) x me [] a (λ e. rw e hm) (λ d b. no-member x b)) (append-either x es (me ∷ []) h)
-
     -- what is left when they are freed
     abbrev Y : ℕ → List ℕ
-    Y = except X gone []
+    Y = upd (except X es []) me []
 
     length-cond : (b : Bool) (x : List ℕ) → length (cond b [] x) ≡ cond b 0 (length x)
     length-cond true x = refl
     length-cond false x = refl
 
-    left-sum : sumTo n (λ i. length (Y i)) + total L gone ≡ sumTo n L
-    left-sum = omega (arith, sum-same n (except L gone 0) (λ i. length (Y i)) (λ i a. length-cond (member i gone) (X i)), sum-without n L gone gone-once gone-low)
+    left-sum : sumTo n (λ i. length (Y i)) + (total L es + L me) ≡ sumTo n L
+    left-sum =
+        let c = sum-change n (except L es 0) (λ i. length (Y i)) me hm (λ i d. ap length (upd-other (except X es []) me [] i d) ∙ length-cond (member i es) (X i)) in
+        let u : except L es 0 me ≡ L me = rw away in
+        let v : length (Y me) ≡ 0 = ap length (upd-same (except X es []) me []) in
+        omega (arith, c, u, v, sum-without n L es once low)
 
     -- all that is read are the cells of me and of its elements
-    read-sum : afterParts X 0 es + length vs ≡ total L gone
-    read-sum = omega (arith, after-is X 0 es, total-append L es (me ∷ []), total-one L me, ap length parts, length-append es vs)
+    read-sum : afterParts X 0 es + length vs ≡ total L es + L me
+    read-sum = omega (arith, after-is X 0 es, ap length parts, length-append es vs)
 
-    -- without me itself, me is as the others
     left-as : (new : List ℕ) (i : ℕ) → upd Y me new i ≡ upd (except X es []) me new i
     left-as new i = ⊎-elim
         (λ e. rw e (upd-same Y me new ∙ sym (upd-same (except X es []) me new)))
-        (λ d. rw (upd-other Y me new i d, upd-other (except X es []) me new i d) (ap (λ (b : Bool). cond b [] (X i)) (other i d)))
+        (λ d. upd-other Y me new i d ∙ upd-other (except X es []) me [] i d ∙ sym (upd-other (except X es []) me new i d))
         (same? i me)
-      where
-        or-none : (b : Bool) → b || false ≡ b
-        or-none true = refl
-        or-none false = refl
-
-        other : (i : ℕ) → i ≢ me → member i gone ≡ member i es
-        other i d = member-append i es (me ∷ []) ∙ ap (λ (b : Bool). member i es || b) (not-cons i me [] d (member-nil i)) ∙ or-none (member i es)
 
     abbrev quota : ℕ
     quota = length l - lim
@@ -147,15 +137,19 @@ module _ (n : ℕ) (X : ℕ → List ℕ) (l s : List ℤ) (made base lim : ℕ)
       s₂ : List ℤ
       s₂ = droppedAll n l me s₁
 
-      drops : s₂ ≡ foldl (λ a e. up n LEN a e 0) s₁ gone
-      unfolding s₂
-      drops = dropped-all n l s₁ me es (rw (h .fields PE me refl refl refl refl refl, h .fields ELEN me refl refl refl refl refl) (first-part n quota s (g .room) l lim X (g .lists) me es vs parts elen))
+      first : entries (at l) (rd n PE s₁ me) (rd n ELEN s₁ me) ≡ es
+      first = rw (h .fields PE me refl refl refl refl refl, h .fields ELEN me refl refl refl refl refl) (first-part n quota s (g .room) l lim X (g .lists) me es vs parts elen)
+
+      fits : 0 < rd n ELEN s₁ me → rd n PE s₁ me + rd n ELEN s₁ me ≤ length l
+      fits = rw (h .fields PE me refl refl refl refl refl, h .fields ELEN me refl refl refl refl refl) (first-inside n quota s (g .room) l lim X (g .lists) me es vs parts elen)
 
       space₂ : Space n Y l s₂ made base lim
-      space₂ = rw drops (space-fold n l made base lim gone X s₁ gone-low space₁)
+      unfolding s₂
+      space₂ = dropped-space n me hm l s₁ es first fits low made base lim X space₁
 
-      freed : Dropped n gone s₁ s₂
-      freed = rw drops (dropped-fold n gone s₁ (h .room) gone-low)
+      freed : Dropped n me es s₁ s₂
+      unfolding s₂
+      freed = dropped-all n me hm l s₁ es first fits low (h .room)
 
       -- there is a place for each
       ready-kept : length q ≤ quota → Ready n Y l s₂ made (length q) (cleared l s₂ (record { base = base; end = lim }))
@@ -197,10 +191,10 @@ module _ (n : ℕ) (X : ℕ → List ℕ) (l s : List ℤ) (made base lim : ℕ)
       new-length = length-map q (λ (a : Read). a .entry)
 
       table₂ : entries (rd n TMP s₂) 0 (length new) ≡ new
-      table₂ = rw new-length (entries-same (rd n TMP s₁) (rd n TMP s₂) 0 0 (length q) (λ i b. freed .fields TMP (0 + i) refl) ∙ h .table)
+      table₂ = rw new-length (entries-same (rd n TMP s₁) (rd n TMP s₂) 0 0 (length q) (λ i b. freed .fields TMP (0 + i) refl refl refl) ∙ h .table)
 
       fresh₂ : (i : ℕ) → i < made → rd n ORD s₂ i ≢ me
-      fresh₂ i b e = fresh i b (sym (h .fields ORD i refl refl refl refl refl) ∙ sym (freed .fields ORD i refl) ∙ e)
+      fresh₂ i b e = fresh i b (sym (h .fields ORD i refl refl refl refl refl) ∙ sym (freed .fields ORD i refl refl refl) ∙ e)
 
       module _ (c : Cleared) (r : Ready n Y l s₂ made (length q) c) where
         stands : Settled n Y l s₂ made me (c .ends .end) (c .ends .base) new (laid n (c .mem) (c .ends .end) (t .cnt) (c .lists)) (entered n (c .mem) made me (c .ends .end) (t .cnt))
@@ -208,6 +202,15 @@ module _ (n : ℕ) (X : ℕ → List ℕ) (l s : List ℤ) (made base lim : ℕ)
             let e : t .cnt ≡ length new = h .cnt ∙ sym new-length in
             subst⁻¹ (λ (k : ℕ). Settled n Y l s₂ made me (c .ends .end) (c .ends .base) new (laid n (c .mem) (c .ends .end) k (c .lists)) (entered n (c .mem) made me (c .ends .end) k)) e
             (settled-there n Y l s₂ made me new c hm turns fresh₂ table₂ (rw (← new-length) at r))
+
+        not-me : (i : ℕ) → In i es → i ≢ me
+        not-me i a e = apart me i es away a (sym e)
+
+        -- an element that was taken up has no list
+        len-taken : (i : ℕ) → In i es → rd n LEN (entered n (c .mem) made me (c .ends .end) (t .cnt)) i ≡ 0
+        len-taken i a =
+            len-of _ (places n (entered n (c .mem) made me (c .ends .end) (t .cnt))) _ (upd Y me new) (stands .space .lists) i
+            ∙ ap length (upd-other Y me new i (not-me i a) ∙ upd-other (except X es []) me [] i (not-me i a) ∙ ap (λ (b : Bool). cond b [] (X i)) a)
 
         whole : (length q ≤ quota → (c .ends .end ≡ lim) × (c .ends .base ≡ base) × (t .mark ≡ 0)) → (quota < length q → (c .ends .end ≡ sumTo n L - t .mark) × (0 < t .mark))
             → Gathered n X l s made base lim me es q (settled n me made t c)
@@ -225,21 +228,23 @@ module _ (n : ℕ) (X : ℕ → List ℕ) (l s : List ℤ) (made base lim : ℕ)
               free = p;
               turns = plus-sum made 1 (omega arith) ∙ omega arith;
               long = stands .long;
-              want = λ i. stands .fields WANT i refl refl refl ∙ freed .fields WANT i refl ∙ h .want i;
+              want = λ i. stands .fields WANT i refl refl refl ∙ freed .fields WANT i refl refl refl ∙ h .want i;
               table = entries-same (rd n TMP s₁) (rd n TMP (entered n (c .mem) made me (c .ends .end) (t .cnt))) 0 0 (length q)
-                  (λ i b. stands .fields TMP (0 + i) refl refl refl ∙ freed .fields TMP (0 + i) refl) ∙ h .table;
-              order = λ i d. stands .order i d ∙ freed .fields ORD i refl ∙ h .fields ORD i refl refl refl refl refl;
+                  (λ i b. stands .fields TMP (0 + i) refl refl refl ∙ freed .fields TMP (0 + i) refl refl refl) ∙ h .table;
+              order = λ i d. stands .order i d ∙ freed .fields ORD i refl refl refl ∙ h .fields ORD i refl refl refl refl refl;
               last = stands .last;
               queues = alike-then (h .queues)
                   record {
-                    head = λ i. stands .fields HEAD i refl refl refl ∙ freed .fields HEAD i refl;
-                    next = λ i. stands .fields NEXT i refl refl refl ∙ freed .fields NEXT i refl;
-                    last = λ i. stands .fields LAST i refl refl refl ∙ freed .fields LAST i refl;
-                    degree = λ i. stands .fields DEGREE i refl refl refl ∙ freed .fields DEGREE i refl;
+                    head = λ i. stands .fields HEAD i refl refl refl ∙ freed .fields HEAD i refl refl refl;
+                    next = λ i. stands .fields NEXT i refl refl refl ∙ freed .fields NEXT i refl refl refl;
+                    last = λ i. stands .fields LAST i refl refl refl ∙ freed .fields LAST i refl refl refl;
+                    degree = λ i. stands .fields DEGREE i refl refl refl ∙ freed .fields DEGREE i refl refl refl;
                   };
-              fields = λ k i a b d e o u v w. stands .fields k i a b o ∙ freed .fields k i b ∙ h .fields k i d e u v w;
-              dead = λ i d z. stands .dead i d z ∙ freed .fields PE i refl ∙ h .fields PE i refl refl refl refl refl;
-              parents = λ i d z. stands .parents i d z ∙ freed .parents i ∙ h .parents i;
+              fields = λ k i a b d e o f u v w. stands .fields k i a b o ∙ freed .fields k i b f a ∙ h .fields k i d e u v w;
+              w = λ i. stands .fields W i refl refl refl ∙ freed .w i ∙ ap (λ (y : ℕ). cond (member i es) 0 y) (h .fields W i refl refl refl refl refl);
+              taken = λ i a. stands .parents i (not-me i a) (len-taken i a) ∙ freed .taken i a;
+              dead = λ i d a z. stands .dead i d z ∙ freed .places i a ∙ h .fields PE i refl refl refl refl refl;
+              parents = λ i d a z. stands .parents i d z ∙ freed .parents i a ∙ h .parents i;
               kept = λ b. let y = stay b in (y .0, y .1, rw (y .2));
               moved = λ b. let y = move b in (y .0 ∙ ap (λ (k : ℕ). sumTo n L - k) (h .mark), rw (lt-ltb 0 (t .mark) (y .1)));
             }

@@ -89,7 +89,7 @@ module _ (n : ℕ) (quota : ℕ) (s : List ℤ) (room : Room n s) where
       first-part =
           rw elen (sym (entries-take (at l) (rd n PE s me) (length es + length vs) (length es) (omega arith)) ∙ ap (λ (y : List ℕ). take (length es) y) whole ∙ take-append-seam es vs)
 
-      first-inside : 0 < rd n ELEN s me → rd n PE s me + rd n ELEN s me ≤ length l
+      pub first-inside : 0 < rd n ELEN s me → rd n PE s me + rd n ELEN s me ≤ length l
       first-inside z = omega (arith, elen, len, inside-space l (places n s) lim X g me (omega (arith, elen, len)))
 
       own-from : lim < 2 ^ 63 → 0 < length vs → plus (rd n PE s me) (length es) ≡ rd n PE s me + length es

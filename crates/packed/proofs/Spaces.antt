@@ -5,7 +5,8 @@ use native.Mathlib.Omega.{arith}
 use mathlib.Core.Bool.{false}
 use mathlib.Core.List.{List, []}
 use mathlib.Core.Logic.{_≢_, _⊎_, inl, inr, ⊎-elim}
-use mathlib.Core.Path.{_≡_, ap, refl, sym}
+use mathlib.Core.Option.{Option}
+use mathlib.Core.Path.{_∙_, _≡_, ap, refl, sym}
 use borrow.Author.Tests.{lt-ltb}
 use lib.Dec.{eqb}
 use lib.IntN.{ℤ}
@@ -13,10 +14,13 @@ use lib.ListN.{length, set}
 use Rattle.plain.proofs.Entries.{entries-none}
 use Rattle.plain.specs.Turns.{entries, upd}
 use Rattle.cells.proofs.Fields.{room-up}
-use Rattle.cells.proofs.Laws.{mem, rd-up-field, room-yes}
+use Rattle.cells.proofs.Laws.{mem, rd-hang-cell, rd-hang-field, rd-up-field, room-yes}
+use Rattle.cells.proofs.Parents.{room-hang}
 use Rattle.cells.proofs.Slices.{same?, split}
-use Rattle.cells.specs.Layout.{LEN, ORD, PE}
+use Rattle.cells.specs.Layout.{LEN, ORD, PE, W}
+use Rattle.cells.specs.Links.{hang, named}
 use Rattle.cells.specs.View.{Room, at, rd, up, wr}
+use Rattle.packed.specs.Gather.{absorbed}
 use Rattle.packed.specs.Places.{Mem, Owns, Space, places}
 use Rattle.packed.proofs.Frame.{ends, mem-by, other-field}
 use Rattle.packed.proofs.Objects.{Off, lowered, renamed, rewritten, stored}
@@ -130,3 +134,51 @@ module _ (n : ℕ) (X : ℕ → List ℕ) (l s : List ℤ) (cnt base lim : ℕ) 
       below : (i q : ℕ) → Owns (places n s) i q → (i ≡ j) ⊎ (i ≢ j) → q < rd n PE s j + rd n LEN s j
       below i q o (inl e) = omega (arith, o .to, ap (rd n PE s) e, ap (rd n LEN s) e)
       below i q o (inr d) = omega (arith, c i q d o)
+
+-- objects die, and places of dead ones are overwritten: what lives stands where it stood
+module _ (n : ℕ) (X Y : ℕ → List ℕ) (l s s′ : List ℤ) (cnt base lim : ℕ) (h : Space n X l s cnt base lim) (room : Room n s′)
+    (stays : (i : ℕ) → 0 < rd n LEN s′ i → (rd n PE s′ i ≡ rd n PE s i) × (rd n LEN s′ i ≡ rd n LEN s i)) (order : (t : ℕ) → rd n ORD s′ t ≡ rd n ORD s t)
+    (lives : (i : ℕ) → 0 < rd n LEN s′ i → Y i ≡ X i) (dies : (i : ℕ) → rd n LEN s′ i ≡ 0 → Y i ≡ []) where
+  was : (i q : ℕ) → Owns (places n s′) i q → Owns (places n s) i q
+  was i q o =
+      let z = stays i (omega (arith, o .from, o .to)) in
+      record { from = omega (arith, z .0, o .from); to = omega (arith, z .0, z .1, o .to) }
+
+  list : (i : ℕ) → (0 < rd n LEN s′ i) ⊎ (rd n LEN s′ i ≤ 0) → entries (at l) (rd n PE s′ i) (rd n LEN s′ i) ≡ Y i
+  list i (inl b) = rw (stays i b .0, stays i b .1, lives i b) (h .lists .lists i)
+  list i (inr b) = let z : rd n LEN s′ i ≡ 0 = omega arith in rw (z, dies i z) (entries-none (at l) (rd n PE s′ i))
+
+  pub space-left : Space n Y l s′ cnt base lim
+  space-left =
+      record {
+        lists = record {
+          lists = λ i. list i (split 0 (rd n LEN s′ i));
+          one = λ i j q a b. h .lists .one i j q (was i q a) (was j q b);
+          under = λ i q a. h .lists .under i q (was i q a);
+          fits = h .lists .fits;
+        };
+        room = room;
+        sorted = sorted-by (places n s′) (rd n ORD s) (rd n ORD s′) order cnt base lim
+            (sorted-fewer (places n s) (places n s′) (λ i x. let z = stays i x in (z .0, omega (arith, z .1))) (rd n ORD s) cnt base lim lim (omega arith) (h .sorted));
+      }
+
+-- a parent link of an object that is dead
+pub space-hung : (n : ℕ) (X : ℕ → List ℕ) (l s : List ℤ) (cnt base lim : ℕ) → Space n X l s cnt base lim → (e : ℕ) → rd n LEN s e ≡ 0 → (x : Option ℕ)
+    → Space n X l (hang n s e x) cnt base lim
+space-hung n X l s cnt base lim h e dead x =
+    space-left n X X l s (hang n s e x) cnt base lim h (room-hang n s e x (h .room))
+    (λ i b. (rd-hang-cell n PE s e x i (λ y. absurd (omega (arith, len i, ap (rd n LEN s) y))), len i))
+    (λ t. rd-hang-field n ORD s e x t refl) (λ i b. refl)
+    (λ i z. sym (h .lists .lists i) ∙ ap (entries (at l) (rd n PE s i)) (sym (len i) ∙ z) ∙ entries-none (at l) (rd n PE s i))
+  where
+    len : (i : ℕ) → rd n LEN (hang n s e x) i ≡ rd n LEN s i
+    len i = rd-hang-field n LEN s e x i refl
+
+-- an element that is taken up
+pub space-absorbed : (n : ℕ) (X : ℕ → List ℕ) (l s : List ℤ) (cnt base lim : ℕ) → Space n X l s cnt base lim → (me e : ℕ) → e < n
+    → Space n (upd X e []) l (absorbed n me e s) cnt base lim
+unfolding absorbed
+space-absorbed n X l s cnt base lim h me e b =
+    let a = space-field n X l s cnt base lim h W e 0 refl refl refl in
+    space-hung n (upd X e []) l (up n LEN (up n W s e 0) e 0) cnt base lim (space-dropped n X l (up n W s e 0) cnt base lim a e b) e
+    (simp (mem, room-yes n s (h .room), lt-ltb e n b)) (named n me)

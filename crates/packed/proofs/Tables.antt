@@ -9,6 +9,7 @@ use mathlib.Core.Path.{_∙_, _≡_, ap, refl}
 use borrow.Author.Tests.{lt-ltb}
 use lib.Dec.{eqb, ltb}
 use lib.IntN.{ℤ}
+use lib.ListN.{length}
 use Rattle.plain.proofs.Logic.{cond-has}
 use Rattle.plain.proofs.Repeats.{length-countUp}
 use Rattle.plain.proofs.Sums.{total-most}
@@ -17,11 +18,12 @@ use Rattle.plain.specs.Lists.{upTo}
 use Rattle.plain.specs.Turns.{times}
 use Rattle.cells.proofs.Laws.{mem, rd-up-field, room-yes}
 use Rattle.cells.proofs.Slices.{same?}
-use Rattle.cells.specs.Layout.{ELEN, LEN, ORD, PE, TMP, WANT}
+use Rattle.cells.specs.Layout.{ELEN, LEN, ORD, PE, TMP, W, WANT}
+use Rattle.cells.specs.Rows.{clipped}
 use Rattle.cells.specs.View.{Room, at, rd, up}
 use Rattle.chain.proofs.Unlink.{removed-other}
 use Rattle.chain.specs.Model.{removed}
-use Rattle.packed.specs.Gather.{Cleared, cleared, collectedRest, droppedAll, droppedAt, droppedPart, madeRoom}
+use Rattle.packed.specs.Gather.{Cleared, absorbed, absorbedPart, cleared, collectedRest, droppedAll, madeRoom}
 use Rattle.packed.specs.Model.{Heap, heap, movedDown, movedLow, movedNew, movedNext, movedOne, packedAll, packedLow}
 use Rattle.packed.specs.Places.{due, places}
 use Rattle.packed.specs.Tray.{Tabled, counted, wanted}
@@ -107,17 +109,22 @@ tabled-row n x quota reads s t a b r ha hb hr h room hx hc =
 
 -- ---- room is made beside it
 
-module _ (n c i : ℕ) (hl : eqb LEN c ≡ false) (hp : eqb PE c ≡ false) where
+module _ (n c i : ℕ) (hl : eqb LEN c ≡ false) (hp : eqb PE c ≡ false) (hw : eqb W c ≡ false) where
   -- cell i of field c is as in s
   abbrev Kept : List ℤ → List ℤ → Type 0
   Kept s m = rd n c m i ≡ rd n c s i
 
+  kept-absorbed : (me e : ℕ) (s : List ℤ) → Kept s (absorbed n me e s)
+  unfolding absorbed
+  kept-absorbed me e s = simp (mem, hl, hp, hw)
+
   kept-dropped : (l : List ℤ) (me : ℕ) (s : List ℤ) → Kept s (droppedAll n l me s)
-  unfolding droppedAll droppedPart droppedAt
+  unfolding droppedAll absorbedPart
   kept-dropped l me s =
-      let k = rd n ELEN s me in
-      rd-up-field n LEN c (times k (λ t m. up n LEN m (at l (rd n PE s me + t)) 0) s) me 0 i hl
-      ∙ times-keeps (λ t m. Kept s m) (λ t m. up n LEN m (at l (rd n PE s me + t)) 0) k (λ t m b e. rd-up-field n LEN c m (at l (rd n PE s me + t)) 0 i hl ∙ e) k s (omega arith) refl
+      let p = rd n PE s me in
+      let k = clipped (length l) p (rd n ELEN s me) in
+      rd-up-field n LEN c (times k (λ t. absorbed n me (at l (p + t))) s) me 0 i hl
+      ∙ times-keeps (λ t m. Kept s m) (λ t. absorbed n me (at l (p + t))) k (λ t m b e. kept-absorbed me (at l (p + t)) m ∙ e) k s (omega arith) refl
 
   kept-one : (top j : ℕ) (m : Heap) → Kept (m .mem) (movedOne n top j m .mem)
   unfolding movedOne movedDown
@@ -141,5 +148,5 @@ module _ (n c i : ℕ) (hl : eqb LEN c ≡ false) (hp : eqb PE c ≡ false) wher
 
 pub tabled-room : (n me base lim cnt mark : ℕ) (l s l₂ s₂ : List ℤ) (e : Ends) (k : ℕ) → Tabled n s k → cleared l₂ s₂ e ≡ madeRoom n me base lim cnt mark l s → Tabled n s₂ k
 tabled-room n me base lim cnt mark l s l₂ s₂ e k h c =
-    tabled-same n s s₂ k (λ t. ap (λ (y : Cleared). rd n TMP (y .mem) t) c ∙ kept-room n TMP t refl refl me base lim cnt mark l s)
-    (omega (arith, wanted-same n s s₂ (λ t. ap (λ (y : Cleared). rd n WANT (y .mem) t) c ∙ kept-room n WANT t refl refl me base lim cnt mark l s))) h
+    tabled-same n s s₂ k (λ t. ap (λ (y : Cleared). rd n TMP (y .mem) t) c ∙ kept-room n TMP t refl refl refl me base lim cnt mark l s)
+    (omega (arith, wanted-same n s s₂ (λ t. ap (λ (y : Cleared). rd n WANT (y .mem) t) c ∙ kept-room n WANT t refl refl refl me base lim cnt mark l s))) h

@@ -1,4 +1,4 @@
--- A gather as the code does it: the lists that are read are freed, room is made, and the new list is stored.
+-- A gather as the code does it: the elements that are read are taken up, room is made, and the new list is stored.
 -- Assumes nothing.
 use Prim.Native.Nat.{_+_, _-_, _<_, _^_, ℕ}
 use mathlib.Core.Bool.{cond}
@@ -7,7 +7,8 @@ use lib.Dec.{ltb}
 use lib.IntN.{ℤ}
 use lib.ListN.{length}
 use Rattle.plain.specs.Turns.{times}
-use Rattle.cells.specs.Layout.{ELEN, LEN, PE}
+use Rattle.cells.specs.Layout.{ELEN, LEN, PE, W}
+use Rattle.cells.specs.Links.{hang, named}
 use Rattle.cells.specs.Rows.{clipped}
 use Rattle.cells.specs.View.{at, plus, rd, up, wr}
 use Rattle.packed.specs.Model.{entered, laid, packedAll, packedLow}
@@ -16,16 +17,18 @@ use Rattle.packed.specs.declared.Tray.{Tray}
 use Rattle.packed.specs.declared.Ends.{Ends}
 use Rattle.packed.specs.declared.Made.{Made}
 
--- ---- lists that are read are freed
+-- ---- what is read is taken up
 
-unfoldable pub droppedAt : ℕ → List ℤ → ℕ → List ℤ → List ℤ
-droppedAt n l q s = up n LEN s (at l q) 0
+-- element e is no more: me is its parent, and it has no list
+unfoldable pub absorbed : ℕ → ℕ → ℕ → List ℤ → List ℤ
+absorbed n me e s = hang n (up n LEN (up n W s e 0) e 0) e (named n me)
 
-unfoldable pub droppedPart : ℕ → List ℤ → ℕ → ℕ → List ℤ → List ℤ
-droppedPart n l p k s = times k (λ t. droppedAt n l (p + t)) s
+-- the elements whose numbers are in a part of the list space, as far as it is there
+unfoldable pub absorbedPart : ℕ → List ℤ → ℕ → ℕ → ℕ → List ℤ → List ℤ
+absorbedPart n l me p k s = times (clipped (length l) p k) (λ t. absorbed n me (at l (p + t))) s
 
 unfoldable pub droppedAll : ℕ → List ℤ → ℕ → List ℤ → List ℤ
-droppedAll n l me s = up n LEN (droppedPart n l (rd n PE s me) (rd n ELEN s me) s) me 0
+droppedAll n l me s = up n LEN (absorbedPart n l me (rd n PE s me) (rd n ELEN s me) s) me 0
 
 -- ---- the cells that all lists hold
 

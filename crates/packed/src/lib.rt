@@ -8,7 +8,7 @@ ghost use Rattle.cells.specs.Rows.{Rows};
 ghost use Rattle.packed.specs.Places.{places, due};
 ghost use Rattle.packed.specs.Model.{copied, heap, movedOne, movedLow, movedNext, movedNew, packedLow, packedAll, laid, entered};
 ghost use Rattle.packed.specs.Tray.{Tabled, wanted, taking, counted, tookRow, took, tookPart, tookElement, tookElements, ownPart, tookAll};
-ghost use Rattle.packed.specs.Gather.{droppedAt, droppedPart, droppedAll, addedLength, allLengths, cleared, collectedRest, madeRoom, outside, Brief, summed, gatheredOutside, inside, gatheredInside};
+ghost use Rattle.packed.specs.Gather.{absorbed, absorbedPart, droppedAll, addedLength, allLengths, cleared, collectedRest, madeRoom, outside, Brief, summed, gatheredOutside, inside, gatheredInside};
 
 // The end of the lists that go by number, and the end of all.
 pub struct Ends {
@@ -324,36 +324,47 @@ pub fn take_all(lists: &[i64], s: &mut [i64], n: usize, me: usize, quota: usize)
     take_part(lists, s, n, own.from, own.len, quota, t)
 }
 
-// ---- lists that are read are freed
+// ---- what is read is taken up
 
-// The object whose number is in cell `q` is dead.
-pub fn drop_at(lists: &[i64], s: &mut [i64], n: usize, q: usize)
-    requires { ⌜ Room n (now s) ⌝ }
-    ensures { λ _. ⌜ (now (s .exit) ≡ droppedAt n (now (lists .entry)) q (now (s .entry))) × Room n (now (s .exit)) ⌝ }
+// Element `e` is no more: `me` took it up, and it has no list.
+pub fn absorb(s: &mut [i64], n: usize, me: usize, e: usize)
+    requires { ⌜ Room n (now s) × (e < n) ⌝ }
+    ensures { λ _. ⌜ (now (s .exit) ≡ absorbed n me e (now (s .entry))) × Room n (now (s .exit)) ⌝ }
 {
-    let e = cells::peek(lists, q);
-    cells::up(s, n, cells::LEN, e, 0);
+    cells::set(s, n, cells::W, e, 0);
+    cells::set(s, n, cells::LEN, e, 0);
+    cells::put_parent(s, n, e, me);
+}
+
+// The same of the element whose number is in cell `q`.
+fn absorb_at(lists: &[i64], s: &mut [i64], n: usize, me: usize, q: usize)
+    requires { ⌜ Room n (now s) × Rows n (now lists) × (q < length (now lists)) ⌝ }
+    ensures { λ _. ⌜ (now (s .exit) ≡ absorbed n me (at (now (lists .entry)) q) (now (s .entry))) × Room n (now (s .exit)) ⌝ }
+{
+    let e = cells::row(lists, n, q);
+    absorb(s, n, me, e);
 }
 
 // The same of each of the `k` numbers from `p` on.
-pub fn drop_part(lists: &[i64], s: &mut [i64], n: usize, p: usize, k: usize)
-    requires { ⌜ Room n (now s) × (p < 2 ^ 63) × (k < 2 ^ 63) ⌝ }
-    ensures { λ _. ⌜ (now (s .exit) ≡ droppedPart n (now (lists .entry)) p k (now (s .entry))) × Room n (now (s .exit)) ⌝ }
+fn absorb_part(lists: &[i64], s: &mut [i64], n: usize, me: usize, p: usize, k: usize)
+    requires { ⌜ Room n (now s) × Rows n (now lists) × (p < 2 ^ 63) × (k < 2 ^ 63) ⌝ }
+    ensures { λ _. ⌜ (now (s .exit) ≡ absorbedPart n (now (lists .entry)) me p k (now (s .entry))) × Room n (now (s .exit)) ⌝ }
 {
-    for t in 0..k {
-        drop_at(lists, s, n, p + t);
+    let m = cells::clip(lists.len(), p, k);
+    for t in 0..m {
+        absorb_at(lists, s, n, me, p + t);
     }
 }
 
-// `me` and its elements are dead.
+// `me` takes up its elements, and has no list itself.
 pub fn drop_all(lists: &[i64], s: &mut [i64], n: usize, me: usize)
-    requires { ⌜ Room n (now s) ⌝ }
+    requires { ⌜ Room n (now s) × Rows n (now lists) × (me < n) ⌝ }
     ensures { λ _. ⌜ (now (s .exit) ≡ droppedAll n (now (lists .entry)) me (now (s .entry))) × Room n (now (s .exit)) ⌝ }
 {
-    let p = cells::rd(s, n, cells::PE, me);
-    let k = cells::rd(s, n, cells::ELEN, me);
-    drop_part(lists, s, n, p, k);
-    cells::up(s, n, cells::LEN, me, 0);
+    let p = cells::get(s, n, cells::PE, me);
+    let k = cells::get(s, n, cells::ELEN, me);
+    absorb_part(lists, s, n, me, p, k);
+    cells::set(s, n, cells::LEN, me, 0);
 }
 
 // The length of the list of `j`, added.
@@ -390,7 +401,7 @@ pub fn collect_rest(
     cnt: usize,
     mark: usize,
 ) -> Ends
-    requires { ⌜ Room n (now s) × Rows n (now lists) ⌝ }
+    requires { ⌜ Room n (now s) × Rows n (now lists) × (me < n) ⌝ }
     ensures { λ r. ⌜ (cleared (now (lists .exit)) (now (s .exit)) r ≡ collectedRest n me base lim cnt mark (now (lists .entry)) (now (s .entry))) × Room n (now (s .exit)) × Rows n (now (lists .exit)) × (r .end < 2 ^ 63) ⌝ }
 {
     let all = all_lengths(s, n);
@@ -414,7 +425,7 @@ pub fn make_room(
     cnt: usize,
     mark: usize,
 ) -> Ends
-    requires { ⌜ Room n (now s) × Rows n (now lists) × (lim < 2 ^ 63) ⌝ }
+    requires { ⌜ Room n (now s) × Rows n (now lists) × (me < n) × (lim < 2 ^ 63) ⌝ }
     ensures { λ r. ⌜ (cleared (now (lists .exit)) (now (s .exit)) r ≡ madeRoom n me base lim cnt mark (now (lists .entry)) (now (s .entry))) × Room n (now (s .exit)) × Rows n (now (lists .exit)) × (r .end < 2 ^ 63) ⌝ }
 {
     if 0 < mark {

@@ -2,72 +2,26 @@
 -- Assumes nothing.
 use Prim.Native.Nat.{ℕ, _≤_, _<_}
 use native.Mathlib.Omega.{arith}
-use mathlib.Core.Path.{_≡_, refl, sym, ap, _∙_, subst}
-use mathlib.Core.Logic.{_≢_, _⊎_, inl, inr}
+use mathlib.Core.Path.{_≡_, refl}
+use mathlib.Core.Logic.{_≢_}
 use mathlib.Core.Bool.{false}
 use mathlib.Core.List.{List}
-use mathlib.Core.Option.{Option, none}
+use mathlib.Core.Option.{none}
 use borrow.Author.Tests.{lt-ltb, le-ltb, ltb-false}
 use lib.Dec.{eqb, ltb}
 use lib.IntN.{ℤ}
-use Rattle.plain.proofs.Entries.{entries-none}
 use Rattle.plain.proofs.Logic.{cond-has}
 use Rattle.plain.specs.Lists.{member}
-use Rattle.plain.specs.Turns.{entries}
-use Rattle.cells.proofs.Laws.{mem, rd-hang-field, room-yes}
-use Rattle.cells.proofs.Parents.{named-none, room-hang}
-use Rattle.cells.proofs.Slices.{same?}
-use Rattle.cells.specs.Layout.{LEN, ELEN, DEGREE, W, PE, NV, ORD}
-use Rattle.cells.specs.Links.{named, parent, hang}
-use Rattle.cells.specs.View.{Room, at, rd, up, plus}
+use Rattle.cells.proofs.Laws.{mem, room-yes}
+use Rattle.cells.proofs.Parents.{named-none}
+use Rattle.cells.specs.Layout.{LEN, ELEN, DEGREE, W, PE, NV}
+use Rattle.cells.specs.Links.{named, parent}
+use Rattle.cells.specs.View.{Room, rd, up, plus}
 use Rattle.chain.proofs.Frame.{chained-up, chained-hang, chained-degree}
 use Rattle.chain.specs.Chained.{Chained}
-use Rattle.packed.proofs.Orders.{sorted-by, sorted-fewer}
-use Rattle.packed.proofs.Spaces.{space-field}
-use Rattle.packed.specs.Places.{Owns, Space, places}
+use Rattle.packed.proofs.Spaces.{space-field, space-hung}
+use Rattle.packed.specs.Places.{Space}
 use Rattle.placing.specs.Model.{sealed, marked, finished}
-
--- ---- a parent stored for an object that is dead
-
-module _ (n : ℕ) (X : ℕ → List ℕ) (l s : List ℤ) (cnt base lim : ℕ) (h : Space n X l s cnt base lim) (j : ℕ) (o : Option ℕ) (dead : rd n LEN s j ≡ 0) where
-  abbrev r : List ℤ
-  r = hang n s j o
-
-  len : (i : ℕ) → rd n LEN r i ≡ rd n LEN s i
-  len i = rd-hang-field n LEN s j o i refl
-
-  list-at : (i : ℕ) → (i ≡ j) ⊎ (i ≢ j) → entries (at l) (rd n PE r i) (rd n LEN r i) ≡ X i
-  list-at i (inl e) =
-      let z : rd n LEN s i ≡ 0 = ap (rd n LEN s) e ∙ dead in
-      let w : entries (at l) (rd n PE s i) 0 ≡ X i = subst (λ (k : ℕ). entries (at l) (rd n PE s i) k ≡ X i) z (h .lists .lists i) in
-      rw (len i, z) (entries-none (at l) (rd n PE r i) ∙ sym (entries-none (at l) (rd n PE s i)) ∙ w)
-  list-at i (inr d) =
-      let f : j ≢ i = λ e. d (sym e) in
-      let pe : rd n PE r i ≡ rd n PE s i = simp mem in
-      rw (len i, pe) (h .lists .lists i)
-
-  place-at : (i : ℕ) → 0 < rd n LEN r i → (i ≡ j) ⊎ (i ≢ j) → rd n PE r i ≡ rd n PE s i
-  place-at i x (inl e) = absurd (omega (arith, len i, ap (rd n LEN s) e, dead))
-  place-at i x (inr d) = let f : j ≢ i = λ e. d (sym e) in simp mem
-
-  was : (i q : ℕ) → Owns (places n r) i q → Owns (places n s) i q
-  was i q o =
-      let e : rd n PE r i ≡ rd n PE s i = place-at i (omega (arith, o .from, o .to)) (same? i j) in
-      record { from = omega (arith, e, o .from); to = omega (arith, e, len i, o .to) }
-
-  pub space-hang : Space n X l r cnt base lim
-  space-hang =
-      record {
-        lists = record {
-          lists = λ i. list-at i (same? i j);
-          one = λ i k q a b. h .lists .one i k q (was i q a) (was k q b);
-          under = λ i q a. h .lists .under i q (was i q a);
-          fits = h .lists .fits;
-        };
-        room = room-hang n s j o (h .room);
-        sorted = sorted-by (places n r) (rd n ORD s) (rd n ORD r) (λ t. rd-hang-field n ORD s j o t refl) cnt base lim
-            (sorted-fewer (places n s) (places n r) (λ i x. (place-at i x (same? i j), omega (arith, len i))) (rd n ORD s) cnt base lim lim (omega arith) (h .sorted));
-      }
 
 -- ---- the stores of the element
 
@@ -146,5 +100,4 @@ module _ (n : ℕ) (s : List ℤ) (p size count : ℕ) where
       (λ x. space-field n X l t cnt base lim c W p 1 refl refl refl)
       (λ x.
       let z : rd n LEN (up n W t p 0) p ≡ count = simp (mem, room-yes n s room, lt-ltb p n hp) in
-      space-hang n X l (up n W t p 0) cnt base lim (space-field n X l t cnt base lim c W p 0 refl refl refl) p (named n n)
-      (omega (arith, z, ltb-false 0 count x)))
+      space-hung n X l (up n W t p 0) cnt base lim (space-field n X l t cnt base lim c W p 0 refl refl refl) p (omega (arith, z, ltb-false 0 count x)) (named n n))

@@ -150,7 +150,7 @@ module _ {N n nd size : ℕ} {l s : List ℤ} {t : Turn} {x : Outcomes.Statistic
   pub elens₁ : (v : ℕ) → rd n ELEN (begun .mem) v ≡ rd n ELEN s v
   elens₁ v =
       begun-fields n l s st (b .inv) (b .weighed) p d (b .which) (t .made) (t .base) (t .free) small narrower (h .drawn) turns fresh roomy rm (h .free) ELEN v
-      refl refl refl refl refl refl refl refl refl refl
+      refl refl refl refl refl refl refl refl refl
 
   -- ---- step 3
 

@@ -1,7 +1,6 @@
 -- A part of the list space filtered to the left: what is kept of it, counted and summed, and what stays as it was.
 -- Assumes nothing.
 use Prim.Native.Nat.{_+_, _<_, _^_, _≤_, suc, ℕ}
-use native.Mathlib.Nat.{mod-eq-of-lt}
 use native.Mathlib.Omega.{arith}
 use mathlib.Core.Bool.{Bool, false, true}
 use mathlib.Core.List.{List, [], _++_, _∷_, append-nil}
@@ -15,12 +14,8 @@ use Rattle.plain.specs.Lists.{consIf, itself, keep, total}
 use Rattle.plain.specs.Turns.{entries}
 use Rattle.cells.proofs.Slices.{at-wr-other, at-wr-same, length-wr}
 use Rattle.cells.specs.View.{at, wr}
-use Rattle.trimming.specs.Model.{Keeping, counted, keeping, keptEntry, wrapped}
-
--- a sum that a word holds
-wrapped-sum : (a b : ℕ) → a + b < 2 ^ 63 → wrapped a b ≡ a + b
-unfolding wrapped
-wrapped-sum a b h = mod-eq-of-lt {m = 2 ^ 64} (omega arith)
+use Rattle.packed.proofs.Trays.{wrapped-sum}
+use Rattle.trimming.specs.Model.{Keeping, counted, keeping, keptEntry}
 
 pub keep-snoc : (w : ℕ → Bool) (xs : List ℕ) (x : ℕ) → keep w (xs ++ (x ∷ [])) ≡ keep w xs ++ consIf (w x) x []
 unfolding keep

@@ -1,66 +1,26 @@
 -- Elements that a new one takes up: the memory without their lists.
 -- Assumes nothing.
-use Prim.Native.Nat.{_+_, _<_, _≤_, ℕ}
-use native.Mathlib.Omega.{arith}
+use Prim.Native.Nat.{_<_, ℕ}
 use mathlib.Core.Bool.{false, true, cond}
 use mathlib.Core.List.{List, [], _++_, _∷_}
 use mathlib.Core.Logic.{_≢_, _⊎_, inl, inr, ⊎-elim}
-use mathlib.Core.Option.{Option}
 use mathlib.Core.Path.{_∙_, _≡_, ap, refl, subst⁻¹, sym}
 use borrow.Author.Tests.{lt-ltb}
 use lib.Dec.{eqb, ltb}
 use lib.IntN.{ℤ}
-use Rattle.plain.proofs.Entries.{entries-none, upd-other, upd-same}
+use Rattle.plain.proofs.Entries.{upd-other, upd-same}
 use Rattle.plain.proofs.Logic.{clash, either}
 use Rattle.plain.proofs.Members.{append-either, member-either, member-first, member-left, member-nil, member-right, not-in}
 use Rattle.plain.specs.Lists.{member}
-use Rattle.plain.specs.Turns.{entries, upd}
-use Rattle.cells.proofs.Laws.{mem, rd-hang-cell, rd-hang-field, rd-up-field, room-yes}
-use Rattle.cells.proofs.Parents.{room-hang}
-use Rattle.cells.proofs.Slices.{same?, split}
-use Rattle.cells.specs.Layout.{LEN, ORD, PE, W}
+use Rattle.plain.specs.Turns.{upd}
+use Rattle.cells.proofs.Laws.{mem, rd-hang-field, rd-up-field, room-yes}
+use Rattle.cells.proofs.Slices.{same?}
+use Rattle.cells.specs.Layout.{LEN, W}
 use Rattle.cells.specs.Links.{hang, named, parent}
-use Rattle.cells.specs.View.{at, rd, roomy, up}
-use Rattle.packed.proofs.Orders.{sorted-by, sorted-fewer}
-use Rattle.packed.proofs.Spaces.{space-dropped, space-field, space-renamed}
-use Rattle.packed.specs.Places.{Owns, Space, places}
-use Rattle.trimming.specs.Model.{absorbed}
-
--- ---- a parent link of a dead object
-
-module _ (n : ℕ) (X : ℕ → List ℕ) (l s : List ℤ) (cnt base lim : ℕ) (h : Space n X l s cnt base lim) (e : ℕ) (dead : rd n LEN s e ≡ 0) (x : Option ℕ) where
-  len-hung : (j : ℕ) → rd n LEN (hang n s e x) j ≡ rd n LEN s j
-  len-hung j = rd-hang-field n LEN s e x j refl
-
-  -- a live object is another
-  pe-hung : (j : ℕ) → 0 < rd n LEN s j → rd n PE (hang n s e x) j ≡ rd n PE s j
-  pe-hung j a = rd-hang-cell n PE s e x j (λ y. absurd (omega (arith, ap (rd n LEN s) y)))
-
-  was : (j q : ℕ) → Owns (places n (hang n s e x)) j q → Owns (places n s) j q
-  was j q o =
-      let a : 0 < rd n LEN s j = omega (arith, o .from, o .to, len-hung j) in
-      record { from = omega (arith, o .from, pe-hung j a); to = omega (arith, o .to, pe-hung j a, len-hung j) }
-
-  list-hung : (j : ℕ) → (0 < rd n LEN s j) ⊎ (rd n LEN s j ≤ 0) → entries (at l) (rd n PE (hang n s e x) j) (rd n LEN (hang n s e x) j) ≡ X j
-  list-hung j (inl a) = rw (len-hung j, pe-hung j a) (h .lists .lists j)
-  list-hung j (inr a) =
-      let z : rd n LEN s j ≡ 0 = omega arith in
-      rw (len-hung j, z) (entries-none (at l) (rd n PE (hang n s e x) j) ∙ sym (entries-none (at l) (rd n PE s j)) ∙ ap (entries (at l) (rd n PE s j)) (sym z) ∙ h .lists .lists j)
-
-  pub space-hung : Space n X l (hang n s e x) cnt base lim
-  space-hung =
-      record {
-        lists = record {
-          lists = λ j. list-hung j (split 0 (rd n LEN s j));
-          one = λ i j q a b. h .lists .one i j q (was i q a) (was j q b);
-          under = λ j q a. h .lists .under j q (was j q a);
-          fits = h .lists .fits;
-        };
-        room = room-hang n s e x (h .room);
-        sorted = sorted-by (places n (hang n s e x)) (rd n ORD s) (rd n ORD (hang n s e x)) (λ t. rd-hang-field n ORD s e x t refl) cnt base lim
-            (sorted-fewer (places n s) (places n (hang n s e x))
-            (λ j y. (pe-hung j (omega (arith, len-hung j)), omega (arith, len-hung j))) (rd n ORD s) cnt base lim lim (omega arith) (h .sorted));
-      }
+use Rattle.cells.specs.View.{rd, roomy, up}
+use Rattle.packed.proofs.Spaces.{space-absorbed, space-renamed}
+use Rattle.packed.specs.Gather.{absorbed}
+use Rattle.packed.specs.Places.{Space}
 
 -- ---- one more in a list
 
@@ -153,9 +113,6 @@ module _ (n me : ℕ) (X : ℕ → List ℕ) (l s : List ℤ) (cnt base lim : �
       len-here : rd n LEN (hang n b e (named n me)) e ≡ 0
       len-here = simp (mem, room, inside)
 
-      len-before : rd n LEN b e ≡ 0
-      len-before = simp (mem, room, inside)
-
       link-here : parent n (hang n b e (named n me)) e ≡ named n me
       link-here = simp (mem, room, inside)
 
@@ -176,11 +133,8 @@ module _ (n me : ℕ) (X : ℕ → List ℕ) (l s : List ℤ) (cnt base lim : �
       unfolding absorbed
       freed-more =
           record {
-            space = space-renamed n (upd (without gone X) e []) l (hang n b e (named n me)) cnt base lim
-                (space-hung n (upd (without gone X) e []) l b cnt base lim
-                (space-dropped n (without gone X) l a cnt base lim (space-field n (without gone X) l s′ cnt base lim (h .space) W e 0 refl refl refl) e he)
-                e len-before (named n me))
-                (without (gone ++ (e ∷ [])) X) (λ j. lists-more j (same? j e));
+            space = space-renamed n (upd (without gone X) e []) l (absorbed n me e s′) cnt base lim
+                (space-absorbed n (without gone X) l s′ cnt base lim (h .space) me e he) (without (gone ++ (e ∷ [])) X) (λ j. lists-more j (same? j e));
             fields = λ f x u v w. rd-hang-field n f b e (named n me) x u ∙ rd-up-field n LEN f a e 0 x v ∙ rd-up-field n W f s′ e 0 x w ∙ h .fields f x u v w;
             others = λ f x u. let o = snoc-out x e gone u in kept-field f x (o .1) ∙ h .others f x (o .0);
             kin = λ x u. let o = snoc-out x e gone u in kept-link x (o .1) ∙ h .kin x (o .0);

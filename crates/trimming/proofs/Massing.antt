@@ -1,15 +1,14 @@
 -- A row that keeps nothing: it is eliminated with the pivot, its weight goes there, and the log has it.
 -- Assumes nothing.
-use Prim.Native.Nat.{_+_, _<_, _^_, _≤_, ℕ}
+use Prim.Native.Nat.{_+_, _<_, _^_, ℕ}
 use native.Mathlib.Omega.{arith}
 use mathlib.Core.Bool.{false, true}
 use mathlib.Core.List.{List, []}
-use mathlib.Core.Logic.{_≢_, _⊎_, inl, inr, ⊎-elim}
-use mathlib.Core.Path.{_∙_, _≡_, ap, refl, sym}
+use mathlib.Core.Logic.{_≢_, inl, inr, ⊎-elim}
+use mathlib.Core.Path.{_∙_, _≡_, ap, refl}
 use borrow.Author.Tests.{lt-ltb}
 use lib.Dec.{eqb, ltb}
 use lib.IntN.{ℤ}
-use lib.ListN.{length}
 use Rattle.plain.proofs.Entries.{entries-none}
 use Rattle.plain.proofs.Logic.{clash}
 use Rattle.plain.specs.Lists.{member}
@@ -19,10 +18,10 @@ use Rattle.cells.proofs.Slices.{plus-sum}
 use Rattle.cells.specs.Layout.{LEN, MERGES, NV, PE, W}
 use Rattle.cells.specs.Links.{hang, named, parent}
 use Rattle.cells.specs.View.{at, plus, rd, roomy, up}
-use Rattle.packed.proofs.Spaces.{space-field, space-rewritten}
+use Rattle.packed.proofs.Spaces.{space-field, space-hung, space-rewritten}
 use Rattle.packed.specs.Places.{Space}
 use Rattle.trimming.specs.Model.{Keeping, buried, tookWeight}
-use Rattle.trimming.proofs.Freeing.{Freed, space-hung, without}
+use Rattle.trimming.proofs.Freeing.{without}
 use Rattle.trimming.proofs.Sifting.{Row}
 
 -- s′ is s, but that row i is a child of me, its weight is there, and it is the `made`-th of the log

@@ -16,9 +16,11 @@ use Rattle.cells.specs.Layout.{PE, LEN, WANT, ELEN, DEGREE, W, HHEAD, HNEXT, HK
 use Rattle.cells.specs.View.{at, plus, rd, up, wr}
 use Rattle.cells.specs.Rows.{clipped}
 use Rattle.cells.specs.Links.{named, hang}
+use Rattle.packed.specs.Gather.{absorbed}
+use Rattle.packed.specs.Tray.{wrapped}
 use Rattle.trimming.specs.declared.Kept.{Kept}
 use Rattle.trimming.specs.declared.Merged.{Merged}
-use Rattle.trimming.specs.Model.{Keeping, Trimming, absorbed, buried, counted, halfway, keeping, keptAll, keptElement, keptElements, keptEntry, keptLive, keptVariable, keptVariables, keyOf, keyed, lowered, massed, nothing, relisted, renewed, settled, sized, tookWeight, trimming, turned, updated, updatedAll, updatedAt, wrapped}
+use Rattle.trimming.specs.Model.{Keeping, Trimming, buried, counted, halfway, keeping, keptAll, keptElement, keptElements, keptEntry, keptLive, keptVariable, keptVariables, keyOf, keyed, lowered, massed, nothing, relisted, renewed, settled, sized, tookWeight, trimming, turned, updated, updatedAll, updatedAt}
 
 -- ---- what is kept
 
@@ -26,10 +28,6 @@ pub count-step : (x size : ℕ) (k : Kept) (d t : ℕ) → d ≡ (k .deg + size)
     → record { elements = k .elements; end = k .end + 1; deg = d; sum = t } ≡ counted x size k
 unfolding counted wrapped
 count-step x size k d t hd ht = rw (hd, ht)
-
-pub absorb-step : (n me e : ℕ) (s a b r : List ℤ) → a ≡ up n W s e 0 → b ≡ up n LEN a e 0 → r ≡ hang n b e (named n me) → r ≡ absorbed n me e s
-unfolding absorbed
-absorb-step n me e s a b r ha hb hr = rw (← ha, ← hb) hr
 
 module _ (n me flag : ℕ) (aggressive : Bool) (e w : ℕ) (l s : List ℤ) (k : Kept) (b : Bool) (hb : b ≡ (aggressive && eqb w flag)) where
   pub live-no : (r : List ℤ) → r ≡ absorbed n me e s → b ≡ true → keeping l r k ≡ keptLive n me flag aggressive e w (keeping l s k)

@@ -12,6 +12,8 @@ use Rattle.cells.specs.Layout.{PE, LEN, WANT, ELEN, DEGREE, W, HHEAD, HNEXT, HK
 use Rattle.cells.specs.View.{at, plus, rd, up, wr}
 use Rattle.cells.specs.Rows.{clipped}
 use Rattle.cells.specs.Links.{named, hang}
+use Rattle.packed.specs.Gather.{absorbed}
+use Rattle.packed.specs.Tray.{wrapped}
 use Rattle.trimming.specs.declared.Kept.{Kept}
 use Rattle.trimming.specs.declared.Merged.{Merged}
 
@@ -22,10 +24,6 @@ pub record Grown (k r : Kept) : Type 0 where
   pub elements : r .elements ≡ k .elements
   pub low : k .end ≤ r .end
   pub high : r .end ≤ k .end + 1
-
--- the sum, as a machine's word has it
-unfoldable pub wrapped : ℕ → ℕ → ℕ
-wrapped a b = (a + b) % 2 ^ 64
 
 unfoldable pub counted : ℕ → ℕ → Kept → Kept
 counted x size k = record { elements = k .elements; end = k .end + 1; deg = wrapped (k .deg) size; sum = wrapped (k .sum) x }
@@ -42,10 +40,6 @@ keeping l s k = record { lists = l; mem = s; kept = k }
 -- x, of this size, goes to the cell behind what is kept
 unfoldable pub keptEntry : ℕ → ℕ → Keeping → Keeping
 keptEntry x size m = keeping (wr (m .lists) (m .kept .end) x) (m .mem) (counted x size (m .kept))
-
--- element e is a child of me
-unfoldable pub absorbed : ℕ → ℕ → ℕ → List ℤ → List ℤ
-absorbed n me e s = hang n (up n LEN (up n W s e 0) e 0) e (named n me)
 
 -- an element of mark w is dropped, though it is there
 abbrev pub swallows : Bool → ℕ → ℕ → Bool

@@ -7,7 +7,7 @@ ghost use lib.Dec.{eqb};
 ghost use lib.ListN.{length};
 ghost use Rattle.cells.specs.View.{Room, wr};
 ghost use Rattle.cells.specs.Rows.{Rows};
-ghost use Rattle.trimming.specs.Model.{Grown, counted, absorbed, keeping, keptLive, keptElement, keptElements, keptVariable, keptVariables, keptAll, weighed, tookWeight, buried, massed, turned, sized, lowered, keyOf, keyed, relisted, settled, Few, trimming, updated, updatedAt, updatedAll};
+ghost use Rattle.trimming.specs.Model.{Grown, counted, keeping, keptLive, keptElement, keptElements, keptVariable, keptVariables, keptAll, weighed, tookWeight, buried, massed, turned, sized, lowered, keyOf, keyed, relisted, settled, Few, trimming, updated, updatedAt, updatedAll};
 
 // ---- what is kept
 
@@ -50,16 +50,6 @@ pub fn swallows(w: usize, flag: usize, aggressive: bool) -> bool
     if aggressive { w == flag } else { false }
 }
 
-// Element `e` becomes a child of `me`.
-pub fn absorb(s: &mut [i64], n: usize, e: usize, me: usize)
-    requires { ⌜ Room n (now s) × (e < n) ⌝ }
-    ensures { λ _. ⌜ (now (s .exit) ≡ absorbed n me e (now (s .entry))) × Room n (now (s .exit)) ⌝ }
-{
-    cells::set(s, n, cells::W, e, 0);
-    cells::set(s, n, cells::LEN, e, 0);
-    cells::put_parent(s, n, e, me);
-}
-
 // Element `e` of mark `w`, which is there: kept, or dropped.
 pub fn keep_live(
     lists: &mut [i64],
@@ -78,7 +68,7 @@ pub fn keep_live(
     if flag < w {
         keep_entry(lists, n, e, w - flag, k)
     } else if swallows(w, flag, aggressive) {
-        absorb(s, n, e, me);
+        packed::absorb(s, n, me, e);
         k
     } else {
         keep_entry(lists, n, e, 0, k)

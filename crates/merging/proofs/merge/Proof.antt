@@ -21,7 +21,8 @@ same-length : tie.Need-same-length
 same-length c = search needs
 
 returns : tie.Need-returns
-returns c = search (needs, join-step)
+returns c =
+    (join-step _ _ _ _ _ _ _ _ (c .before .before .before .before .before .before .before .add-weight .ensures .0) (c .before .before .before .before .leave .ensures .0) (c .before .put .ensures .0), search needs)
 
 pub merge-spec : {M : Type 1} → statement M
 merge-spec = tie.close (tie.spec add-weight-requires leave-requires put-requires same-length returns)

@@ -5,14 +5,14 @@ use Rattle.opening.proofs.gather.Tie as tie
 use Rattle.opening.proofs.gather.Reads as reads
 use Rattle.opening.proofs.gather.Lts as lts
 use Rattle.cells.proofs.get.Reads as get-reads
-use Rattle.opening.proofs.gather_with.Reads as gather-with-reads
+use Rattle.packed.proofs.gather_outside.Reads as gather-outside-reads
 use Rattle.opening.proofs.gather_alone.Reads as gather-alone-reads
 
 get-requires : tie.Need-get-requires
 get-requires c κs = search needs
 
-gather-with-requires : tie.Need-gather-with-requires
-gather-with-requires c κs = search needs
+gather-outside-requires : tie.Need-gather-outside-requires
+gather-outside-requires c κs = search needs
 
 gather-alone-requires : tie.Need-gather-alone-requires
 gather-alone-requires c κs = search needs
@@ -40,7 +40,7 @@ gather-spec =
     tie.close
     (tie.spec
     get-requires
-    gather-with-requires
+    gather-outside-requires
     gather-alone-requires
     same-length
     same-length-2

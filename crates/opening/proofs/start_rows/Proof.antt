@@ -1,10 +1,10 @@
 use borrow.Author.Needs.{needs}
 use mathlib.Core.Path.{_≡_}
-use Prim.Native.Nat.{_+_, _≤_, _-_}
+use Prim.Native.Nat.{_≤_, _-_}
 use lib.ListN.{length}
 use Rattle.plain.specs.Turns.{Turned}
 use Rattle.plain.proofs.Turns.{begin, turn, finish}
-use Rattle.cells.specs.View.{Room, at, up}
+use Rattle.cells.specs.View.{Room}
 use Rattle.opening.specs.Start.{begun, begunAll}
 use Rattle.opening.proofs.start_rows.Statement.{statement}
 use Rattle.opening.proofs.start_rows.Tie as tie

@@ -1,9 +1,7 @@
 use Rattle.packed.specs.Gather.{addedLength, allLengths}
-use Prim.Native.Nat.{_+_, _<_, _≤_, _-_, _^_}
+use Prim.Native.Nat.{_<_, _≤_, _-_, _^_}
 use Rattle.plain.proofs.Turns.{begin, turn, finish}
 use Rattle.plain.specs.Turns.{Turned}
-use lib.ListN.{length}
-use mathlib.Core.Path.{_≡_}
 use borrow.Author.Needs.{needs}
 use Rattle.packed.proofs.all_lengths.Statement.{statement}
 use Rattle.packed.proofs.all_lengths.Tie as tie

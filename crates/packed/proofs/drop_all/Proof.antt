@@ -4,21 +4,21 @@ use Rattle.packed.proofs.drop_all.Statement.{statement}
 use Rattle.packed.proofs.drop_all.Tie as tie
 use Rattle.packed.proofs.drop_all.Reads as reads
 use Rattle.packed.proofs.drop_all.Lts as lts
-use Rattle.cells.proofs.rd.Reads as rd-reads
-use Rattle.cells.proofs.up.Reads as up-reads
-use Rattle.packed.proofs.drop_part.Reads as drop-part-reads
+use Rattle.cells.proofs.get.Reads as get-reads
+use Rattle.cells.proofs.set.Reads as set-reads
+use Rattle.packed.proofs.absorb_part.Reads as absorb-part-reads
 
-rd-requires : tie.Need-rd-requires
-rd-requires c κs = search needs
+get-requires : tie.Need-get-requires
+get-requires c κs = search needs
 
-rd-requires-2 : tie.Need-rd-requires-2
-rd-requires-2 c κs = search needs
+get-requires-2 : tie.Need-get-requires-2
+get-requires-2 c κs = search needs
 
-drop-part-requires : tie.Need-drop-part-requires
-drop-part-requires c κs = search needs
+absorb-part-requires : tie.Need-absorb-part-requires
+absorb-part-requires c κs = search needs
 
-up-requires : tie.Need-up-requires
-up-requires c κs = search needs
+set-requires : tie.Need-set-requires
+set-requires c κs = search needs
 
 same-length : tie.Need-same-length
 same-length c = search needs
@@ -29,4 +29,4 @@ returns c = search (needs, dropall-step)
 pub drop-all-spec : {M : Type 1} → statement M
 drop-all-spec =
     tie.close
-    (tie.spec rd-requires rd-requires-2 drop-part-requires up-requires same-length returns)
+    (tie.spec get-requires get-requires-2 absorb-part-requires set-requires same-length returns)

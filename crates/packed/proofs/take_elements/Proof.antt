@@ -1,6 +1,6 @@
 use Rattle.packed.specs.Tray.{Tabled, taking, tookElement, tookElements}
 use Rattle.cells.specs.View.{Room}
-use Prim.Native.Nat.{_+_, _<_, _≤_, _-_, _^_}
+use Prim.Native.Nat.{_+_, _≤_, _-_}
 use Rattle.plain.proofs.Turns.{begin, turn}
 use Rattle.cells.proofs.Rows.{clipped-finish}
 use Rattle.plain.specs.Turns.{Turned}

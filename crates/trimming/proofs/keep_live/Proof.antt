@@ -4,7 +4,7 @@ use Rattle.trimming.proofs.keep_live.Statement.{statement}
 use Rattle.trimming.proofs.keep_live.Tie as tie
 use Rattle.trimming.proofs.keep_live.Reads as reads
 use Rattle.trimming.proofs.keep_live.Lts as lts
-use Rattle.trimming.proofs.absorb.Reads as absorb-reads
+use Rattle.packed.proofs.absorb.Reads as absorb-reads
 use Rattle.trimming.proofs.keep_entry.Reads as keep-entry-reads
 use Rattle.trimming.proofs.swallows.Reads as swallows-reads
 

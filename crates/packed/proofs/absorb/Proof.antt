@@ -1,9 +1,9 @@
-use Rattle.trimming.proofs.Steps.{absorb-step}
+use Rattle.packed.proofs.Gathers.{absorb-step}
 use borrow.Author.Needs.{needs}
-use Rattle.trimming.proofs.absorb.Statement.{statement}
-use Rattle.trimming.proofs.absorb.Tie as tie
-use Rattle.trimming.proofs.absorb.Reads as reads
-use Rattle.trimming.proofs.absorb.Lts as lts
+use Rattle.packed.proofs.absorb.Statement.{statement}
+use Rattle.packed.proofs.absorb.Tie as tie
+use Rattle.packed.proofs.absorb.Reads as reads
+use Rattle.packed.proofs.absorb.Lts as lts
 use Rattle.cells.proofs.put_parent.Reads as put-parent-reads
 use Rattle.cells.proofs.set.Reads as set-reads
 
