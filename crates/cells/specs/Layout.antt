@@ -4,8 +4,7 @@
 --   cells 8·n to 16·n + 1     table t at t·n + i, for t from 8 to 15; table 15 has n + 1 cells
 --   cells 16·n + 16 on        the rows of the cleaned pattern; nnz of them in the least room
 --
--- An index has one meaning in each phase; names that share one belong to different phases, but for TMP, which a gather is done with before a key is written, and
--- HNEXT, which a gather is done with then too.
+-- An index has one meaning in each phase; names that share one belong to different phases, but for TMP, which a gather is done with before a key is written.
 -- Assumes nothing.
 use Prim.Native.Nat.{ℕ}
 

@@ -88,7 +88,7 @@ fn store(l: &mut [i64], i: usize, v: usize)
 }
 
 // The number in cell `i`; 0 where there is no such cell.
-pub fn peek(l: &[i64], i: usize) -> usize
+fn peek(l: &[i64], i: usize) -> usize
     ensures { λ r. ⌜ (r ≡ at (now (l .entry)) i) × (r < 2 ^ 63) ⌝ }
 {
     if i < l.len() { load(l, i) } else { 0 }
@@ -131,16 +131,6 @@ pub fn put_row(l: &mut [i64], n: usize, q: usize, v: usize)
     ensures { λ _. ⌜ (now (l .exit) ≡ wr (now (l .entry)) q v) × Rows n (now (l .exit)) ⌝ }
 {
     store(l, q, v);
-}
-
-// The same; nothing is done where there is no such cell.
-pub fn poke_row(l: &mut [i64], n: usize, q: usize, v: usize)
-    requires { ⌜ Rows n (now l) × (v < n) × (v < 2 ^ 63) ⌝ }
-    ensures { λ _. ⌜ (now (l .exit) ≡ wr (now (l .entry)) q v) × Rows n (now (l .exit)) ⌝ }
-{
-    if q < l.len() {
-        store(l, q, v);
-    }
 }
 
 // Cell `e` becomes what cell `p` is.

@@ -1,18 +1,19 @@
 -- The code's steps are the model's: one law for each way out of a function, its premises in the words of what was called.
 -- Assumes nothing.
-use Prim.Native.Nat.{_+_, _-_, _<_, _≤_, _^_, ℕ}
+use Prim.Native.Nat.{_+_, _-_, _%_, _<_, _≤_, _^_, ℕ}
 use mathlib.Core.List.{List}
 use mathlib.Core.Path.{_≡_, refl, ap, _∙_}
 use borrow.Author.Tests.{le-leb, le-ltb, lt-leb, lt-ltb}
 use lib.IntN.{ℤ}
 use lib.ListN.{length}
 use Rattle.cells.specs.Layout.{DEGREE, ELEN, NV, PE, W}
-use Rattle.cells.specs.View.{Room, at, plus, rd, up}
+use Rattle.cells.specs.View.{Room, at, rd, up}
 use Rattle.plain.specs.Turns.{Turned}
 use Rattle.plain.proofs.Turns.{begin, turn}
 use Rattle.cells.specs.Rows.{clipped}
 use Rattle.cells.proofs.Rows.{clipped-finish}
-use Rattle.sizing.specs.Model.{sizedAt, sizedElement, sizedFirst, sizedList, sizedOf, sizedPart, sizedRow, sizedAll, weighedRow, weighedRows}
+use Rattle.packed.specs.Tray.{wrapped}
+use Rattle.sizing.specs.Model.{sizedAt, sizedElement, sizedFirst, sizedList, sizedOf, sizedPart, sizedRow, sizedAll, fitted, weighedRow, weighedRows}
 use Rattle.sizing.proofs.Marks.{kept-turns}
 
 module _ (n weight flag e : ℕ) (s : List ℤ) where
@@ -63,6 +64,15 @@ row-step n l flag q s i weight p k r hi hw hp hk hr = rw (← hi, ← hw, ← hp
 pub row-weight : (n : ℕ) (l : List ℤ) (q : ℕ) (s : List ℤ) (i weight : ℕ) → i ≡ at l q → weight ≡ rd n NV s i → weight ≡ rd n NV s (at l q)
 row-weight n l q s i weight hi hw = rw (← hi) hw
 
+module _ (sum : ℕ) where
+  pub fit-yes : sum < 2 ^ 63 → sum ≡ fitted sum
+  unfolding fitted
+  fit-yes h = rw (lt-ltb sum (2 ^ 63) h)
+
+  pub fit-no : 2 ^ 63 ≤ sum → 0 ≡ fitted sum
+  unfolding fitted
+  fit-no h = rw (le-ltb sum (2 ^ 63) h)
+
 -- the loop over the rows: marks and sum after t turns
 pub record Sizing (n : ℕ) (l : List ℤ) (flag from : ℕ) (s₀ : List ℤ) (t : ℕ) (s : List ℤ) (sum : ℕ) : Type 0 where
   pub marks : Turned (λ j. sizedRow n l flag (from + j)) s₀ t s
@@ -74,13 +84,13 @@ module _ (n : ℕ) (l : List ℤ) (flag from : ℕ) (s₀ : List ℤ) where
 
   -- the weights are those before the first turn: no turn touches them
   pub sizing-turns : (t : ℕ) (s : List ℤ) (sum weight : ℕ) (s′ : List ℤ) (sum′ : ℕ) → Sizing n l flag from s₀ t s sum → Room n s₀ → s′ ≡ sizedRow n l flag (from + t) s
-      → weight ≡ rd n NV s (at l (from + t)) → sum′ ≡ plus sum weight → Sizing n l flag from s₀ (t + 1) s′ sum′
-  unfolding weighedRow
+      → weight ≡ rd n NV s (at l (from + t)) → sum′ ≡ (sum + weight) % 2 ^ 64 → Sizing n l flag from s₀ (t + 1) s′ sum′
+  unfolding weighedRow wrapped
   sizing-turns t s sum weight s′ sum′ h r e w f =
       let kept : rd n NV s (at l (from + t)) ≡ rd n NV s₀ (at l (from + t)) = rw (h .marks .same) (kept-turns n l flag from t s₀ r .fields NV (at l (from + t)) refl) in
       record {
         marks = turn (λ j. sizedRow n l flag (from + j)) s₀ t s (h .marks) s′ e;
-        weights = turn (λ j. weighedRow n l s₀ (from + j)) 0 t sum (h .weights) sum′ (f ∙ ap (plus sum) (w ∙ kept));
+        weights = turn (λ j. weighedRow n l s₀ (from + j)) 0 t sum (h .weights) sum′ (f ∙ ap (λ (y : ℕ). (sum + y) % 2 ^ 64) (w ∙ kept));
       }
 
   module _ (t : ℕ) (s : List ℤ) (sum : ℕ) (h : Sizing n l flag from s₀ t s sum) (k there : ℕ) (e : there ≡ clipped (length l) from k) (a : t ≤ there) (b : there ≤ t) where
@@ -88,6 +98,6 @@ module _ (n : ℕ) (l : List ℤ) (flag from : ℕ) (s₀ : List ℤ) where
     unfolding sizedAll
     sizing-marks = clipped-finish (λ j. sizedRow n l flag (from + j)) s₀ t s (h .marks) (length l) from k there e a b
 
-    pub sizing-weights : sum ≡ weighedRows n l s₀ from k
+    pub sizing-weights : (r : ℕ) → r ≡ fitted sum → r ≡ weighedRows n l s₀ from k
     unfolding weighedRows
-    sizing-weights = clipped-finish (λ j. weighedRow n l s₀ (from + j)) 0 t sum (h .weights) (length l) from k there e a b
+    sizing-weights r f = f ∙ ap fitted (clipped-finish (λ j. weighedRow n l s₀ (from + j)) 0 t sum (h .weights) (length l) from k there e a b)

@@ -9,7 +9,8 @@ use lib.ListN.{length}
 use Rattle.plain.specs.Turns.{times}
 use Rattle.cells.specs.Layout.{DEGREE, ELEN, NV, PE, W}
 use Rattle.cells.specs.Rows.{clipped}
-use Rattle.cells.specs.View.{at, plus, rd, up}
+use Rattle.cells.specs.View.{at, rd, up}
+use Rattle.packed.specs.Tray.{wrapped}
 
 -- the counter of e begins, where it is a number of a cell
 unfoldable pub sizedFirst : ℕ → ℕ → ℕ → ℕ → List ℤ → List ℤ
@@ -47,7 +48,11 @@ sizedAll n l flag from k s = times (clipped (length l) from k) (λ t. sizedRow n
 -- ---- the weight of the rows, on the way
 
 unfoldable pub weighedRow : ℕ → List ℤ → List ℤ → ℕ → ℕ → ℕ
-weighedRow n l s q sum = plus sum (rd n NV s (at l q))
+weighedRow n l s q sum = wrapped sum (rd n NV s (at l q))
+
+-- a sum that is a number of a cell, or 0
+unfoldable pub fitted : ℕ → ℕ
+fitted sum = cond (ltb sum (2 ^ 63)) sum 0
 
 unfoldable pub weighedRows : ℕ → List ℤ → List ℤ → ℕ → ℕ → ℕ
-weighedRows n l s from k = times (clipped (length l) from k) (λ t. weighedRow n l s (from + t)) 0
+weighedRows n l s from k = fitted (times (clipped (length l) from k) (λ t. weighedRow n l s (from + t)) 0)

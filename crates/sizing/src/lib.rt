@@ -7,7 +7,7 @@ ghost use lib.ListN.{length};
 ghost use Rattle.cells.specs.Layout.{NV};
 ghost use Rattle.cells.specs.View.{Room, at, rd};
 ghost use Rattle.cells.specs.Rows.{Rows};
-ghost use Rattle.sizing.specs.Model.{sizedFirst, sizedElement, sizedAt, sizedPart, sizedList, sizedRow, sizedAll, weighedRows};
+ghost use Rattle.sizing.specs.Model.{sizedFirst, sizedElement, sizedAt, sizedPart, sizedList, sizedRow, sizedAll, fitted, weighedRows};
 
 // The counter of `e` begins at its weight, and loses that of the first row. Where that is no number of a cell, nothing is done.
 pub fn size_first(s: &mut [i64], n: usize, e: usize, weight: usize, flag: usize)
@@ -86,6 +86,13 @@ pub fn size_row(lists: &[i64], s: &mut [i64], n: usize, q: usize, flag: usize) -
     weight
 }
 
+// A sum that is a number of a cell; any other one makes no sense, and counts as 0.
+fn fit(sum: usize) -> usize
+    ensures { λ r. ⌜ (r ≡ fitted sum) × (r < 2 ^ 63) ⌝ }
+{
+    if sum < 0x8000_0000_0000_0000 { sum } else { 0 }
+}
+
 // Those of each of the `k` rows from `from` on: the rows of the new element. The result is their weight.
 pub fn size_all(lists: &[i64], s: &mut [i64], n: usize, from: usize, k: usize, flag: usize) -> usize
     requires { ⌜ Room n (now s) × Rows n (now lists) × (flag < 2 ^ 63) ⌝ }
@@ -95,7 +102,7 @@ pub fn size_all(lists: &[i64], s: &mut [i64], n: usize, from: usize, k: usize, f
     let there = cells::clip(lists.len(), from, k);
     for t in 0..there {
         let weight = size_row(lists, s, n, from + t, flag);
-        sum = cells::plus(sum, weight);
+        sum = std::num::wrapping_add_usize(sum, weight);
     }
-    sum
+    fit(sum)
 }

@@ -1,6 +1,6 @@
 use Rattle.sizing.proofs.Steps.{Sizing, sizing-begins, sizing-turns, sizing-marks, sizing-weights}
 use Rattle.cells.specs.View.{Room}
-use Prim.Native.Nat.{_<_, _≤_, _-_, _^_}
+use Prim.Native.Nat.{_≤_, _-_}
 use lib.ListN.{length}
 use mathlib.Core.Path.{_≡_}
 use borrow.Author.Needs.{needs}
@@ -9,11 +9,12 @@ use Rattle.sizing.proofs.size_all.Tie as tie
 use Rattle.sizing.proofs.size_all.Reads as reads
 use Rattle.sizing.proofs.size_all.Lts as lts
 use Rattle.cells.proofs.clip.Reads as clip-reads
-use Rattle.cells.proofs.plus.Reads as plus-reads
+use Rattle.sizing.proofs.fit.Reads as fit-reads
 use Rattle.sizing.proofs.size_row.Reads as size-row-reads
+use Rattle.std.proofs.num.wrapping_add_usize.Reads as wrapping-add-usize-reads
 
 abbrev Inv-loop : tie.InvT-loop
-Inv-loop lists s₀ n from k flag sum₀ there t₀ s sum t = Sizing n lists flag from s₀ t s sum × (sum < 2 ^ 63) × (length s ≡ length s₀) × Room n s × (t ≤ there)
+Inv-loop lists s₀ n from k flag sum₀ there t₀ s sum t = Sizing n lists flag from s₀ t s sum × (length s ≡ length s₀) × Room n s × (t ≤ there)
 
 abbrev μ-loop : tie.MeasureT-loop
 μ-loop lists s₀ n from k flag sum₀ there t₀ s sum t = there - t
@@ -30,8 +31,8 @@ add-size-row c = search needs
 size-row-requires : tie.Need-size-row-requires Inv-loop μ-loop
 size-row-requires c κs = search needs
 
-plus-requires : tie.Need-plus-requires Inv-loop μ-loop
-plus-requires c κs = search needs
+wrapping-add-usize-requires : tie.Need-wrapping-add-usize-requires Inv-loop μ-loop
+wrapping-add-usize-requires c κs = search needs
 
 add-t : tie.Need-add-t Inv-loop μ-loop
 add-t c = search needs
@@ -41,6 +42,9 @@ loop-less c = search needs
 
 loop-again : tie.Need-loop-again Inv-loop μ-loop
 loop-again c = search (needs, sizing-turns)
+
+fit-requires : tie.Need-fit-requires Inv-loop μ-loop
+fit-requires c κs = search needs
 
 same-length : tie.Need-same-length Inv-loop μ-loop
 same-length c = search needs
@@ -58,9 +62,10 @@ size-all-spec =
     loop-holds
     add-size-row
     size-row-requires
-    plus-requires
+    wrapping-add-usize-requires
     add-t
     loop-less
     loop-again
+    fit-requires
     same-length
     returns)
