@@ -63,10 +63,6 @@ rows-copied n l p e x m a b h = rw (b, a) (rows-copy n l h p e)
 
 -- ---- a part
 
-pub clipped-all : (size p k : ℕ) → p + k ≤ size → clipped size p k ≡ k
-unfolding clipped
-clipped-all size p k h = omega arith
-
 -- where an empty part lies says nothing
 pub clipped-part : (size p k : ℕ) → (0 < k → p + k ≤ size) → clipped size p k ≡ k
 unfolding clipped

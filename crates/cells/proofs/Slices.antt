@@ -3,6 +3,7 @@
 use Prim.Native.Nat.{ℕ, zero, suc, _+_, _-_, _<_, _≤_, _^_}
 use native.Mathlib.Omega.{arith}
 use native.Mathlib.Decide.{decLt, ℕ-discrete}
+use native.Mathlib.Nat.{mod-eq-of-lt}
 use mathlib.Core.Path.{_≡_, refl, sym, ap, _∙_}
 use mathlib.Core.Logic.{_≢_, _⊎_, inl, inr}
 use mathlib.Core.Bool.{true, false}
@@ -13,7 +14,7 @@ use lib.IntN.{ℤ, pos}
 use lib.Signed.{ltZ}
 use lib.ListN.{length, getD, replicate, length-set, List·getD-eq-default}
 use lib.Seq.{getD-set-same, getD-set-other, set-out, set-comm, set-set}
-use Rattle.cells.specs.View.{nat, at, wr, negative, plus}
+use Rattle.cells.specs.View.{nat, at, wr, negative, plus, wrapped}
 
 -- ---- case splits for laws
 
@@ -108,3 +109,9 @@ plus-either a b (inr h) = rw (plus-cap a b h) (omega arith)
 
 pub plus-small : (a b : ℕ) → plus a b < 2 ^ 63
 plus-small a b = plus-either a b (split (a + b) (2 ^ 63))
+
+-- ---- sums of words
+
+pub wrapped-sum : (a b : ℕ) → a + b < 2 ^ 63 → wrapped a b ≡ a + b
+unfolding wrapped
+wrapped-sum a b h = mod-eq-of-lt {m = 2 ^ 64} (omega arith)

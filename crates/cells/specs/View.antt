@@ -2,7 +2,7 @@
 -- memory with v there; of the scratch, `rd n f s i` is the number of field f at i and `up n f s i v` the memory with v there. All are total: a read outside
 -- gives 0, a store outside does nothing. All are shut: whoever reasons about memory uses the laws of `proofs/`, and never the list or the layout.
 -- Assumes nothing.
-use Prim.Native.Nat.{ℕ, _+_, _-_, _*_, _^_, _<_, _≤_}
+use Prim.Native.Nat.{ℕ, _+_, _-_, _*_, _%_, _^_, _<_, _≤_}
 use mathlib.Core.Path.{_≡_}
 use mathlib.Core.Bool.{Bool, true, false, cond}
 use mathlib.Core.List.{List}
@@ -64,6 +64,10 @@ spare n s = length s - (16 * n + 16)
 -- the sum of two numbers, or the largest number that a cell holds
 unfoldable pub plus : ℕ → ℕ → ℕ
 plus a b = cond (ltb (a + b) (2 ^ 63)) (a + b) (2 ^ 63 - 1)
+
+-- the sum, as a machine's word has it
+unfoldable pub wrapped : ℕ → ℕ → ℕ
+wrapped a b = (a + b) % 2 ^ 64
 
 -- ---- where the sign counts: the pattern as it is lent, and the outputs
 

@@ -20,7 +20,7 @@ use Rattle.plain.specs.Members.{Distinct, In}
 use Rattle.plain.specs.Turns.{entries}
 use Rattle.cells.proofs.Fields.{room-up}
 use Rattle.cells.proofs.Laws.{mem, room-yes, rd-up-field}
-use Rattle.cells.proofs.Rows.{clipped-all}
+use Rattle.cells.proofs.Rows.{clipped-part}
 use Rattle.cells.proofs.Slices.{same?}
 use Rattle.cells.specs.Layout.{ELEN, LEN, PE, W}
 use Rattle.cells.specs.Rows.{clipped}
@@ -36,7 +36,7 @@ markAll n flag xs s = foldl (λ m x. up n W m x flag) s xs
 
 pub marking-all : (l : List ℤ) (n flag p k : ℕ) (s : List ℤ) → p + k ≤ length l → marking l n flag p k s ≡ markAll n flag (entries (at l) p k) s
 unfolding marking
-marking-all l n flag p k s b = rw (clipped-all (length l) p k b) (times-fold (λ x m. up n W m x flag) (at l) p k s)
+marking-all l n flag p k s b = rw (clipped-part (length l) p k (λ z. b)) (times-fold (λ x m. up n W m x flag) (at l) p k s)
 
 pub marks-room : (n flag : ℕ) (xs : List ℕ) (s : List ℤ) → Room n s → Room n (markAll n flag xs s)
 marks-room n flag [] s r = r
@@ -155,7 +155,7 @@ alike-same n l s g flag i j len elen hi hj m hl he b d =
     all-three (eqb len (rd n LEN s j)) (eqb elen (rd n ELEN s j))
     (every (hasMark n s flag) (entries (at l) (rd n PE s j + 1) (clipped (length l) (rd n PE s j + 1) (rd n LEN s j - 1))))
     ∙ rw (
-      clipped-all (length l) (rd n PE s j + 1) (rd n LEN s j - 1) (held-inside n l s g j hj),
+      clipped-part (length l) (rd n PE s j + 1) (rd n LEN s j - 1) (λ z. held-inside n l s g j hj),
       held-rest n l s g j hj,
       every-marked n flag s (entriesOf g i) m (entriesOf g j) b,
       eq-as len (rd n LEN s j) (length (entriesOf g j)) (length (entriesOf g i)) (λ e. omega arith) (λ e. omega arith),

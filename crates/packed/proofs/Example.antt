@@ -8,12 +8,12 @@ use lib.ListN.{replicate}
 use Rattle.plain.specs.Turns.{times}
 use Rattle.cells.specs.Links.{hang}
 use Rattle.cells.specs.Rows.{clipped}
-use Rattle.cells.specs.View.{at, place, plus, rd, up, within, wr}
+use Rattle.cells.specs.View.{at, place, plus, rd, up, within, wr, wrapped}
 use Rattle.chain.specs.Model.{relinked, removed}
 use Rattle.packed.specs.Gather.{absorbed, absorbedPart, addedLength, allLengths, collectedRest, droppedAll, gatheredOutside, madeRoom, settled, summed}
 use Rattle.packed.specs.Model.{copied, entered, laid, movedDown, movedLow, movedNew, movedNext, movedOne, packedAll, packedLow}
 use Rattle.packed.specs.Places.{due}
-use Rattle.packed.specs.Tray.{counted, ownPart, passedBy, took, tookAll, tookElement, tookElements, tookOwn, tookPart, tookRow, wrapped}
+use Rattle.packed.specs.Tray.{counted, ownPart, passedBy, took, tookAll, tookElement, tookElements, tookOwn, tookPart, tookRow}
 use Rattle.packed.specs.declared.Made.{Made}
 
 -- of each object its place, its length, whether it is wanted, and how many elements its list begins with

@@ -20,17 +20,16 @@ use Rattle.plain.specs.Turns.{entries}
 use Rattle.definition.specs.Room.{Read}
 use Rattle.cells.proofs.Fields.{rd-null, room-up}
 use Rattle.cells.proofs.Laws.{mem, parent-up-field, rd-up-field, room-yes}
-use Rattle.cells.proofs.Slices.{same?, split}
+use Rattle.cells.proofs.Slices.{same?, split, wrapped-sum}
 use Rattle.cells.specs.Layout.{HEAD, LAST, NEXT, TMP, WANT}
 use Rattle.cells.specs.Links.{parent}
-use Rattle.cells.specs.View.{Room, rd, up}
+use Rattle.cells.specs.View.{Room, rd, up, wrapped}
 use Rattle.chain.proofs.Alike.{Alike, alike-self, alike-then, fold-room, removed-alike}
 use Rattle.chain.proofs.Unlink.{removed-other, removed-parent, removed-room}
 use Rattle.chain.specs.Model.{removed}
 use Rattle.packed.specs.Reading.{entriesOf, pickOne, sofarOf}
-use Rattle.packed.specs.Tray.{Taking, counted, emptyTray, passedBy, taking, took, tookRow, wrapped}
+use Rattle.packed.specs.Tray.{Taking, counted, emptyTray, passedBy, taking, took, tookRow}
 use Rattle.packed.proofs.Picked.{foldl-append}
-use Rattle.packed.proofs.Trays.{wrapped-sum}
 use Rattle.packed.specs.declared.Tray.{Tray}
 
 -- ---- a list with one entry more

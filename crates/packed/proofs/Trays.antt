@@ -1,24 +1,17 @@
 -- The code of a gather's reading is the model's: one law for each way out of a function.
 -- Assumes nothing.
 use Prim.Native.Nat.{_%_, _+_, _-_, _<_, _^_, _≤_, ℕ}
-use native.Mathlib.Nat.{mod-eq-of-lt}
-use native.Mathlib.Omega.{arith}
 use mathlib.Core.List.{List}
 use mathlib.Core.Logic.{_≢_}
 use mathlib.Core.Path.{_≡_}
 use borrow.Author.Tests.{eq-eqb, le-ltb, lt-ltb, ne-eqb}
 use lib.IntN.{ℤ}
 use Rattle.cells.specs.Layout.{ELEN, LEN, PE, TMP, WANT}
-use Rattle.cells.specs.View.{at, plus, rd, up}
+use Rattle.cells.specs.View.{at, plus, rd, up, wrapped}
 use Rattle.chain.specs.Model.{removed}
-use Rattle.packed.specs.Tray.{Taking, counted, emptyTray, ownPart, passedBy, taking, took, tookAll, tookElement, tookElements, tookOwn, tookPart, tookRow, wrapped}
+use Rattle.packed.specs.Tray.{Taking, counted, emptyTray, ownPart, passedBy, taking, took, tookAll, tookElement, tookElements, tookOwn, tookPart, tookRow}
 use Rattle.packed.specs.declared.Part.{Part}
 use Rattle.packed.specs.declared.Tray.{Tray}
-
--- a small sum is itself as a word
-pub wrapped-sum : (a b : ℕ) → a + b < 2 ^ 63 → wrapped a b ≡ a + b
-unfolding wrapped
-wrapped-sum a b h = mod-eq-of-lt {m = 2 ^ 64} (omega arith)
 
 module _ (quota r : ℕ) (t : Tray) where
   pub count-full : t .cnt ≡ quota → record { cnt = t .cnt + 1; reads = r; mark = r } ≡ counted quota r t

@@ -1,6 +1,6 @@
 -- A gather's reading, as the code does it: numbers go from lists into the scratch table and out of their degree lists, no list moving.
 -- Assumes nothing.
-use Prim.Native.Nat.{_%_, _+_, _-_, _<_, _^_, _≤_, ℕ}
+use Prim.Native.Nat.{_+_, _-_, _<_, _≤_, ℕ}
 use mathlib.Core.Bool.{cond}
 use mathlib.Core.List.{List}
 use lib.Dec.{eqb, ltb}
@@ -9,7 +9,7 @@ use lib.ListN.{length}
 use Rattle.plain.specs.Turns.{times}
 use Rattle.cells.specs.Layout.{ELEN, LEN, PE, TMP, WANT}
 use Rattle.cells.specs.Rows.{clipped}
-use Rattle.cells.specs.View.{at, plus, rd, up}
+use Rattle.cells.specs.View.{at, plus, rd, up, wrapped}
 use Rattle.chain.specs.Model.{removed}
 use Rattle.packed.specs.Places.{sumTo}
 use Rattle.packed.specs.declared.Part.{Part}
@@ -23,10 +23,6 @@ wanted n s = sumTo n (λ i. cond (ltb 0 (rd n WANT s i)) 1 0)
 pub record Tabled (n : ℕ) (s : List ℤ) (k : ℕ) : Type 0 where
   pub spare : k + wanted n s ≤ n
   pub rows : (t : ℕ) → t < k → rd n TMP s t < n
-
--- the sum, as a machine's word has it
-unfoldable pub wrapped : ℕ → ℕ → ℕ
-wrapped a b = (a + b) % 2 ^ 64
 
 -- the scratch, and the numbers beside it
 pub record Taking : Type 0 where

@@ -2,7 +2,6 @@
 -- Assumes nothing.
 use Prim.Native.Nat.{ℕ, _+_, _-_, _<_, _≤_, min}
 use native.Mathlib.Omega.{arith}
-use native.Mathlib.Nat.{min-eq-left, min-eq-right}
 use mathlib.Core.Path.{_≡_}
 use mathlib.Core.List.{List}
 use borrow.Author.Tests.{lt-ltb, le-ltb}
@@ -12,12 +11,6 @@ use Rattle.cells.specs.View.{at, rd, up, plus}
 use Rattle.cells.specs.Links.{named, hang}
 use Rattle.chain.specs.Model.{pushed}
 use Rattle.placing.specs.Model.{degreeOf, Spot, spot, enlistedAt, placedRow, placedOne, sealed, marked, finished}
-
-min-first : (a b : ℕ) → a ≤ b → min a b ≡ a
-min-first a b h = min-eq-left h
-
-min-second : (a b : ℕ) → b ≤ a → min a b ≡ b
-min-second a b h = min-eq-right h
 
 -- the smaller first, then one difference
 pub degree-step : (old size left own most r : ℕ) → most ≡ min (old + size) left → r ≡ most - own → r ≡ degreeOf old size left own
@@ -29,13 +22,9 @@ degree-low old size left own most r hm hr = omega arith
 
 module _ (n size left i own : ℕ) (s : List ℤ) (least old d : ℕ) (t r : List ℤ) (ho : old ≡ rd n DEGREE s i) (hd : d ≡ degreeOf old size left own)
     (ht : t ≡ up n WANT s i own) (hr : r ≡ pushed n t d i) where
-  pub row-lower : d < least → spot r d ≡ placedRow n size left i own (spot s least)
+  pub row-step : (e : ℕ) → e ≡ min least d → spot r e ≡ placedRow n size left i own (spot s least)
   unfolding placedRow enlistedAt
-  row-lower h = rw (← ho, ← hd, ← ht, ← hr, min-second least d (omega arith))
-
-  pub row-higher : least ≤ d → spot r least ≡ placedRow n size left i own (spot s least)
-  unfolding placedRow enlistedAt
-  row-higher h = rw (← ho, ← hd, ← ht, ← hr, min-first least d h)
+  row-step e he = rw (← ho, ← hd, ← ht, ← hr, he)
 
 module _ (n size left : ℕ) (l s : List ℤ) (q least i own : ℕ) (hi : i ≡ at l q) (ho : own ≡ rd n NV s i) where
   pub one-yes : (x : Spot) → x ≡ placedRow n size left i own (spot s least) → 0 < own → x ≡ placedOne n size left (at l q) (spot s least)

@@ -11,7 +11,7 @@ use lib.Dec.{eqb, ltb}
 use lib.IntN.{ℤ}
 use lib.ListN.{length, getD}
 use Rattle.plain.proofs.Entries.{upd-same, upd-other}
-use Rattle.plain.proofs.Logic.{clash}
+use Rattle.plain.proofs.Logic.{and-no, clash}
 use Rattle.plain.proofs.Members.{member-here, member-there, member-nil, not-cons, apart, not-kept, keep-same}
 use Rattle.plain.proofs.Repeats.{length-keep}
 use Rattle.plain.proofs.Turns.{times-fold}
@@ -59,10 +59,6 @@ pub record Ready (n : ℕ) (g : Graph) (p : ℕ) (new : List ℕ) (qs : List (Li
 no-parent : (o : Option ℕ) → isNone o ≡ true → o ≡ none
 no-parent none e = refl
 no-parent (some x) e = clash false e refl
-
-and-no : (b : Bool) → b && false ≡ false
-and-no true = refl
-and-no false = refl
 
 module _ (n : ℕ) (l s : List ℤ) (g : Graph) (p : ℕ) (new : List ℕ) (cnt base lim : ℕ) (h : Within n l s g p new cnt base lim)
     (qs : List (List ℕ)) (ready : Ready n g p new qs) (chained : Chained n s (queueOf qs)) (left size : ℕ) (few : left ≤ n) (d : ℕ) where

@@ -53,7 +53,7 @@ fn restore_row(
     let d = new_degree(old, size, left, own);
     cells::set(s, n, cells::WANT, i, own);
     chain::put_front(s, n, d, i);
-    if d < least { d } else { least }
+    smaller(least, d)
 }
 
 // The row in cell `q` of the list space, if it has a weight, is placed and kept at the end of the survivors: a merged row has none.

@@ -63,6 +63,10 @@ pub or-rest : (a b : Bool) → a ≡ false → b ≡ a || b
 or-rest true b h = absurd (false≢true (sym h))
 or-rest false b h = refl
 
+pub and-no : (a : Bool) → a && false ≡ false
+and-no true = refl
+and-no false = refl
+
 pub and-first : (a b : Bool) → a ≡ false → a ≡ a && b
 and-first true b h = absurd (false≢true (sym h))
 and-first false b h = refl

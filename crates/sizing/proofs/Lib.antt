@@ -3,6 +3,7 @@ pub mod Steps
 pub mod Counting
 pub mod Marks
 pub mod Measuring
+pub mod Weighing
 pub mod Keeping
 pub mod Externals
 pub mod Raising

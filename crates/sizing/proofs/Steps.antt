@@ -7,12 +7,11 @@ use borrow.Author.Tests.{le-leb, le-ltb, lt-leb, lt-ltb}
 use lib.IntN.{ℤ}
 use lib.ListN.{length}
 use Rattle.cells.specs.Layout.{DEGREE, ELEN, NV, PE, W}
-use Rattle.cells.specs.View.{Room, at, rd, up}
+use Rattle.cells.specs.View.{Room, at, rd, up, wrapped}
 use Rattle.plain.specs.Turns.{Turned}
 use Rattle.plain.proofs.Turns.{begin, turn}
 use Rattle.cells.specs.Rows.{clipped}
 use Rattle.cells.proofs.Rows.{clipped-finish}
-use Rattle.packed.specs.Tray.{wrapped}
 use Rattle.sizing.specs.Model.{sizedAt, sizedElement, sizedFirst, sizedList, sizedOf, sizedPart, sizedRow, sizedAll, fitted, weighedRow, weighedRows}
 use Rattle.sizing.proofs.Marks.{kept-turns}
 

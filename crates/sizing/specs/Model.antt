@@ -9,8 +9,7 @@ use lib.ListN.{length}
 use Rattle.plain.specs.Turns.{times}
 use Rattle.cells.specs.Layout.{DEGREE, ELEN, NV, PE, W}
 use Rattle.cells.specs.Rows.{clipped}
-use Rattle.cells.specs.View.{at, rd, up}
-use Rattle.packed.specs.Tray.{wrapped}
+use Rattle.cells.specs.View.{at, rd, up, wrapped}
 
 -- the counter of e begins, where it is a number of a cell
 unfoldable pub sizedFirst : ℕ → ℕ → ℕ → ℕ → List ℤ → List ℤ

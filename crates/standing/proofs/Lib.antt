@@ -1,5 +1,4 @@
 -- From the elimination's models to the definition.
-pub mod Weighing
 pub mod Begun
 pub mod Trims
 pub mod Merges

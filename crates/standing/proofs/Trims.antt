@@ -38,9 +38,9 @@ use Rattle.trimming.proofs.GraphStep.{rows-in-memory}
 use Rattle.trimming.specs.Model.{Trimming, updatedAll}
 use Rattle.trimming.specs.Step.{Ready, Trimmed}
 use Rattle.elimination.specs.declared.Turn.{Turn}
+use Rattle.sizing.proofs.Weighing.{weighed-total}
 use Rattle.sizing.specs.Model.{weighedRows}
 use Rattle.standing.proofs.Begun.{Before, begun, chained₂, drawn₁, drawn₂, extent₂, heads₂, inside₁, list₁, logged₂, outside₂, pivot-var, place₂, sized, small}
-use Rattle.standing.proofs.Weighing.{weighed-total}
 
 module _ {N n nd size : ℕ} {l s : List ℤ} {t : Turn} {x : Outcomes.Statistics} {st : State} {rm : room.Room} {p d : ℕ} (b : Before N n nd size l s t x st rm p d) (aggressive : Bool) where
   abbrev g : Graph

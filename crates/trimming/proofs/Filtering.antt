@@ -12,9 +12,8 @@ use Rattle.plain.proofs.Entries.{entries-same, entries-snoc}
 use Rattle.plain.proofs.Sums.{total-append, total-one}
 use Rattle.plain.specs.Lists.{consIf, itself, keep, total}
 use Rattle.plain.specs.Turns.{entries}
-use Rattle.cells.proofs.Slices.{at-wr-other, at-wr-same, length-wr}
+use Rattle.cells.proofs.Slices.{at-wr-other, at-wr-same, length-wr, wrapped-sum}
 use Rattle.cells.specs.View.{at, wr}
-use Rattle.packed.proofs.Trays.{wrapped-sum}
 use Rattle.trimming.specs.Model.{Keeping, counted, keeping, keptEntry}
 
 pub keep-snoc : (w : ℕ → Bool) (xs : List ℕ) (x : ℕ) → keep w (xs ++ (x ∷ [])) ≡ keep w xs ++ consIf (w x) x []

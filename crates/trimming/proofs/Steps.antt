@@ -5,19 +5,19 @@ use native.Mathlib.Omega.{arith}
 use native.Mathlib.Nat.{mod-lt}
 use mathlib.Core.Bool.{Bool, true, false, _&&_}
 use mathlib.Core.List.{List}
-use mathlib.Core.Path.{_≡_, refl}
+use mathlib.Core.Path.{_≡_}
 use borrow.Author.Tests.{le-leb, le-ltb, lt-leb, lt-ltb, ne-eqb}
 use lib.Dec.{eqb, leb}
 use lib.IntN.{ℤ}
 use lib.ListN.{length}
+use Rattle.plain.proofs.Logic.{and-no}
 use Rattle.plain.proofs.Turns.{finish}
 use Rattle.plain.specs.Turns.{Turned}
 use Rattle.cells.specs.Layout.{PE, LEN, WANT, ELEN, DEGREE, W, HHEAD, HNEXT, HKEY, MERGES, NV}
-use Rattle.cells.specs.View.{at, plus, rd, up, wr}
+use Rattle.cells.specs.View.{at, plus, rd, up, wr, wrapped}
 use Rattle.cells.specs.Rows.{clipped}
 use Rattle.cells.specs.Links.{named, hang}
 use Rattle.packed.specs.Gather.{absorbed}
-use Rattle.packed.specs.Tray.{wrapped}
 use Rattle.trimming.specs.declared.Kept.{Kept}
 use Rattle.trimming.specs.declared.Merged.{Merged}
 use Rattle.trimming.specs.Model.{Keeping, Trimming, buried, counted, halfway, keeping, keptAll, keptElement, keptElements, keptEntry, keptLive, keptVariable, keptVariables, keyOf, keyed, lowered, massed, nothing, relisted, renewed, settled, sized, tookWeight, trimming, turned, updated, updatedAll, updatedAt}
@@ -38,10 +38,6 @@ module _ (n me flag : ℕ) (aggressive : Bool) (e w : ℕ) (l s : List ℤ) (k :
       → keeping l₁ s r ≡ keptLive n me flag aggressive e w (keeping l s k)
   unfolding keptLive keptEntry
   live-yes size l₁ r hs hl hr h = rw (← hb, h, hl, hr, hs)
-
-and-no : (b : Bool) → (b && false) ≡ false
-and-no true = refl
-and-no false = refl
 
 -- a mark above the flag is that of no element that is taken up
 module _ (n me flag : ℕ) (aggressive : Bool) (e w : ℕ) (l s : List ℤ) (k : Kept) where

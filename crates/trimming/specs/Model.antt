@@ -9,11 +9,10 @@ use lib.IntN.{ℤ}
 use lib.ListN.{length}
 use Rattle.plain.specs.Turns.{times}
 use Rattle.cells.specs.Layout.{PE, LEN, WANT, ELEN, DEGREE, W, HHEAD, HNEXT, HKEY, MERGES, NV}
-use Rattle.cells.specs.View.{at, plus, rd, up, wr}
+use Rattle.cells.specs.View.{at, plus, rd, up, wr, wrapped}
 use Rattle.cells.specs.Rows.{clipped}
 use Rattle.cells.specs.Links.{named, hang}
 use Rattle.packed.specs.Gather.{absorbed}
-use Rattle.packed.specs.Tray.{wrapped}
 use Rattle.trimming.specs.declared.Kept.{Kept}
 use Rattle.trimming.specs.declared.Merged.{Merged}
 

@@ -13,11 +13,10 @@ use Rattle.plain.specs.Lists.{total}
 use Rattle.plain.specs.Members.{In}
 use Rattle.plain.specs.Turns.{entries, times}
 use Rattle.cells.proofs.Rows.{clipped-part}
+use Rattle.cells.proofs.Slices.{wrapped-sum}
 use Rattle.cells.specs.Layout.{NV}
-use Rattle.cells.specs.View.{at, rd}
-use Rattle.packed.proofs.Trays.{wrapped-sum}
-use Rattle.packed.specs.Tray.{wrapped}
+use Rattle.cells.specs.View.{at, rd, wrapped}
 use Rattle.sizing.specs.Model.{fitted, weighedRow, weighedRows}
 
 summed : (F : ℕ → ℕ) (xs : List ℕ) (a : ℕ) → a + total F xs < 2 ^ 63 → foldl (λ b x. wrapped b (F x)) a xs ≡ a + total F xs
 unfolding total
