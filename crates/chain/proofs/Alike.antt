@@ -38,6 +38,9 @@ alike-then a b =
       degree = λ i. b .degree i ∙ a .degree i;
     }
 
+pub alike-back : {n : ℕ} {s r : List ℤ} → Alike n s r → Alike n r s
+alike-back a = record { head = λ i. sym (a .head i); next = λ i. sym (a .next i); last = λ i. sym (a .last i); degree = λ i. sym (a .degree i) }
+
 -- it holds the same lists
 pub chained-alike : {n : ℕ} {s r : List ℤ} {L : ℕ → List ℕ} → Chained n s L → Alike n s r → Chained n r L
 chained-alike {r = r} h a = chained-same h r (a .head) (a .next) (a .last) (a .degree)

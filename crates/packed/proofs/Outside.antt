@@ -20,24 +20,26 @@ use Rattle.plain.specs.Members.{Distinct, In}
 use Rattle.plain.specs.Turns.{entries, firsts, upd}
 use Rattle.definition.specs.Room.{Read}
 use Rattle.cells.proofs.Slices.{plus-sum, same?, split}
+use Rattle.cells.proofs.Laws.{parent-up-field, rd-up-field}
+use Rattle.cells.proofs.Rows.{clipped-part}
 use Rattle.cells.specs.Layout.{DEGREE, ELEN, HEAD, LAST, LEN, NEXT, ORD, PE, TMP, W, WANT}
 use Rattle.cells.specs.Links.{parent}
-use Rattle.cells.specs.View.{at, plus, rd}
-use Rattle.chain.proofs.Alike.{Alike, alike-then}
+use Rattle.cells.specs.View.{plus, rd, up}
+use Rattle.chain.proofs.Alike.{Alike, alike-then, fold-alike}
 use Rattle.chain.specs.Model.{removed}
-use Rattle.packed.specs.Gather.{Cleared, Outside, allLengths, cleared, collectedRest, droppedAll, gatheredOutside, madeRoom, settled, summed}
+use Rattle.packed.specs.Gather.{Cleared, Outside, cleared, collectedRest, gatheredOutside, madeRoom, settled, summed}
 use Rattle.packed.specs.Model.{entered, laid, packedAll}
 use Rattle.packed.specs.Places.{Owns, Space, places, sumTo}
 use Rattle.packed.specs.Reading.{afterParts, entriesOf, picked, readAll, sofarOf}
 use Rattle.packed.specs.Tray.{taking, tookAll}
 use Rattle.packed.proofs.Collection.{collected}
-use Rattle.packed.proofs.Dropping.{Dropped, dropped-all, dropped-space, except, lengths-sum, sum-without}
+use Rattle.packed.proofs.Dropping.{Dropped, absorbFold, dropped-fold, except, space-fold, sum-without}
 use Rattle.packed.proofs.Frame.{len-of}
 use Rattle.packed.proofs.Gathers.{room-no-step, room-yes-step}
 use Rattle.packed.proofs.Picked.{after-is, picked-new}
-use Rattle.packed.proofs.Readings.{first-inside, first-part, holds-all}
+use Rattle.packed.proofs.Readings.{holds-all}
 use Rattle.packed.proofs.Settling.{Ready, Settled, settled-there}
-use Rattle.packed.proofs.Spaces.{space-renamed, space-same}
+use Rattle.packed.proofs.Spaces.{space-dropped, space-renamed, space-same}
 use Rattle.packed.proofs.Sums.{sum-change, sum-same}
 use Rattle.packed.proofs.Taking.{Holds, wants}
 use Rattle.packed.specs.declared.Tray.{Tray}
@@ -123,33 +125,49 @@ module _ (n : ℕ) (X : ℕ → List ℕ) (l s : List ℤ) (made base lim : ℕ)
     abbrev reads : ℕ
     reads = afterParts X 0 es + length vs
 
-    taken : Holds n quota s q reads (tookAll n quota l s me)
-    taken = holds-all n quota s (g .room) l lim X (g .lists) me es vs parts elen under (omega (arith, read-sum, left-sum, all-low))
+    -- when the elements are taken up
+    abbrev s′ : List ℤ
+    s′ = absorbFold n me s es
+
+    freed : Dropped n me es s s′
+    freed = dropped-fold n me hm es s (g .room) low
+
+    taken : Holds n quota s′ q reads (tookAll n quota l s me)
+    taken = holds-all n me quota l X s (g .room) lim (g .lists) hm es vs parts elen once away low under (omega (arith, read-sum, left-sum, all-low))
 
     -- no more than there are numbers
     pub few : length q ≤ n
     few = omega (arith, length-below n (entriesOf q) (taken .once) (taken .low), length-map q (λ (a : Read). a .entry))
 
-    module _ (turns : made < n) (fresh : (t : ℕ) → t < made → rd n ORD s t ≢ me) (s₁ : List ℤ) (t : Tray) (h : Holds n quota s q reads (taking s₁ t)) where
-      space₁ : Space n X l s₁ made base lim
-      space₁ = space-same n X l s made base lim g s₁ (h .room) (λ i. h .fields PE i refl refl refl refl refl) (λ i. h .fields LEN i refl refl refl refl refl) (λ i. h .fields ORD i refl refl refl refl refl)
-
+    module _ (turns : made < n) (fresh : (t : ℕ) → t < made → rd n ORD s t ≢ me) (s₁ : List ℤ) (t : Tray) (h : Holds n quota s′ q reads (taking s₁ t)) where
+      -- and me has no list any more
       s₂ : List ℤ
-      s₂ = droppedAll n l me s₁
-
-      first : entries (at l) (rd n PE s₁ me) (rd n ELEN s₁ me) ≡ es
-      first = rw (h .fields PE me refl refl refl refl refl, h .fields ELEN me refl refl refl refl refl) (first-part n quota s (g .room) l lim X (g .lists) me es vs parts elen)
-
-      fits : 0 < rd n ELEN s₁ me → rd n PE s₁ me + rd n ELEN s₁ me ≤ length l
-      fits = rw (h .fields PE me refl refl refl refl refl, h .fields ELEN me refl refl refl refl refl) (first-inside n quota s (g .room) l lim X (g .lists) me es vs parts elen)
+      s₂ = up n LEN s₁ me 0
 
       space₂ : Space n Y l s₂ made base lim
       unfolding s₂
-      space₂ = dropped-space n me hm l s₁ es first fits low made base lim X space₁
+      space₂ =
+          space-dropped n (except X es []) l s₁ made base lim
+          (space-same n (except X es []) l s′ made base lim (space-fold n me l made base lim es X s low g) s₁ (h .room)
+          (λ i. h .fields PE i refl refl refl refl refl) (λ i. h .fields LEN i refl refl refl refl refl) (λ i. h .fields ORD i refl refl refl refl refl)) me hm
 
-      freed : Dropped n me es s₁ s₂
+      -- what else it has is as the reading left it
+      stays : (c i : ℕ) → eqb LEN c ≡ false → rd n c s₂ i ≡ rd n c s₁ i
       unfolding s₂
-      freed = dropped-all n me hm l s₁ es first fits low (h .room)
+      stays c i e = rd-up-field n LEN c s₁ me 0 i e
+
+      parents₂ : (i : ℕ) → parent n s₂ i ≡ parent n s′ i
+      unfolding s₂
+      parents₂ i = parent-up-field n LEN s₁ me 0 i refl ∙ h .parents i
+
+      alike : Alike n s s′
+      alike =
+          record {
+            head = λ i. freed .fields HEAD i refl refl refl;
+            next = λ i. freed .fields NEXT i refl refl refl;
+            last = λ i. freed .fields LAST i refl refl refl;
+            degree = λ i. freed .fields DEGREE i refl refl refl;
+          }
 
       -- there is a place for each
       ready-kept : length q ≤ quota → Ready n Y l s₂ made (length q) (cleared l s₂ (record { base = base; end = lim }))
@@ -165,19 +183,24 @@ module _ (n : ℕ) (X : ℕ → List ℕ) (l s : List ℤ) (made base lim : ℕ)
             parents = λ i z. refl;
           }
 
-      -- there is not
-      ready-moved : sumTo n L + n ≤ length l → Ready n Y l s₂ made (length q) (collectedRest n me base lim made (t .mark) l s₁)
-      unfolding collectedRest s₂
+      -- there is not: the end is where definition C has it
+      moved-end : sumTo n L + n ≤ length l → collectedRest n base lim made t l s₂ .ends .end ≡ sumTo n L - t .mark
+      unfolding collectedRest
+      moved-end room =
+          let c = collected n Y lim under l s₂ base made space₂ in
+          let e = packedAll n base lim made l s₂ .end in
+          let m : t .mark ≤ reads = omega (arith, h .mark, h .late quota) in
+          omega (arith, clipped-part (length l) e (t .reads - t .mark) (λ z. omega (arith, c .total, h .reads, read-sum, left-sum)), c .total, h .reads, read-sum, left-sum)
+
+      ready-moved : sumTo n L + n ≤ length l → Ready n Y l s₂ made (length q) (collectedRest n base lim made t l s₂)
+      unfolding collectedRest
       ready-moved room =
           let c = collected n Y lim under l s₂ base made space₂ in
-          let z : allLengths n s₁ ≡ sumTo n L =
-          lengths-sum n s₁ (omega (arith, all-low, sum-same n L (rd n LEN s₁) (λ i a. len-of l (places n s₁) lim X (space₁ .lists) i)))
-          ∙ sum-same n L (rd n LEN s₁) (λ i a. len-of l (places n s₁) lim X (space₁ .lists) i) in
           record {
             top = packedAll n base lim made l s₂ .end;
             space = c .space;
-            behind = omega (arith, c .total, z, h .mark, h .late quota, read-sum, left-sum);
-            fits = omega (arith, z, few);
+            behind = omega arith;
+            fits = omega (arith, moved-end room, few);
             long = c .long;
             fields = c .fields;
             dead = c .dead;
@@ -191,10 +214,10 @@ module _ (n : ℕ) (X : ℕ → List ℕ) (l s : List ℤ) (made base lim : ℕ)
       new-length = length-map q (λ (a : Read). a .entry)
 
       table₂ : entries (rd n TMP s₂) 0 (length new) ≡ new
-      table₂ = rw new-length (entries-same (rd n TMP s₁) (rd n TMP s₂) 0 0 (length q) (λ i b. freed .fields TMP (0 + i) refl refl refl) ∙ h .table)
+      table₂ = rw new-length (entries-same (rd n TMP s₁) (rd n TMP s₂) 0 0 (length q) (λ i b. stays TMP (0 + i) refl) ∙ h .table)
 
       fresh₂ : (i : ℕ) → i < made → rd n ORD s₂ i ≢ me
-      fresh₂ i b e = fresh i b (sym (h .fields ORD i refl refl refl refl refl) ∙ sym (freed .fields ORD i refl refl refl) ∙ e)
+      fresh₂ i b e = fresh i b (sym (freed .fields ORD i refl refl refl) ∙ sym (h .fields ORD i refl refl refl refl refl) ∙ sym (stays ORD i refl) ∙ e)
 
       module _ (c : Cleared) (r : Ready n Y l s₂ made (length q) c) where
         stands : Settled n Y l s₂ made me (c .ends .end) (c .ends .base) new (laid n (c .mem) (c .ends .end) (t .cnt) (c .lists)) (entered n (c .mem) made me (c .ends .end) (t .cnt))
@@ -228,23 +251,23 @@ module _ (n : ℕ) (X : ℕ → List ℕ) (l s : List ℤ) (made base lim : ℕ)
               free = p;
               turns = plus-sum made 1 (omega arith) ∙ omega arith;
               long = stands .long;
-              want = λ i. stands .fields WANT i refl refl refl ∙ freed .fields WANT i refl refl refl ∙ h .want i;
+              want = λ i. stands .fields WANT i refl refl refl ∙ stays WANT i refl ∙ h .want i ∙ ap (λ (y : ℕ). cond (member i new) 0 y) (freed .fields WANT i refl refl refl);
               table = entries-same (rd n TMP s₁) (rd n TMP (entered n (c .mem) made me (c .ends .end) (t .cnt))) 0 0 (length q)
-                  (λ i b. stands .fields TMP (0 + i) refl refl refl ∙ freed .fields TMP (0 + i) refl refl refl) ∙ h .table;
-              order = λ i d. stands .order i d ∙ freed .fields ORD i refl refl refl ∙ h .fields ORD i refl refl refl refl refl;
+                  (λ i b. stands .fields TMP (0 + i) refl refl refl ∙ stays TMP (0 + i) refl) ∙ h .table;
+              order = λ i d. stands .order i d ∙ stays ORD i refl ∙ h .fields ORD i refl refl refl refl refl ∙ freed .fields ORD i refl refl refl;
               last = stands .last;
-              queues = alike-then (h .queues)
+              queues = alike-then (alike-then (fold-alike n new s s′ (g .room) (freed .room) alike) (h .queues))
                   record {
-                    head = λ i. stands .fields HEAD i refl refl refl ∙ freed .fields HEAD i refl refl refl;
-                    next = λ i. stands .fields NEXT i refl refl refl ∙ freed .fields NEXT i refl refl refl;
-                    last = λ i. stands .fields LAST i refl refl refl ∙ freed .fields LAST i refl refl refl;
-                    degree = λ i. stands .fields DEGREE i refl refl refl ∙ freed .fields DEGREE i refl refl refl;
+                    head = λ i. stands .fields HEAD i refl refl refl ∙ stays HEAD i refl;
+                    next = λ i. stands .fields NEXT i refl refl refl ∙ stays NEXT i refl;
+                    last = λ i. stands .fields LAST i refl refl refl ∙ stays LAST i refl;
+                    degree = λ i. stands .fields DEGREE i refl refl refl ∙ stays DEGREE i refl;
                   };
-              fields = λ k i a b d e o f u v w. stands .fields k i a b o ∙ freed .fields k i b f a ∙ h .fields k i d e u v w;
-              w = λ i. stands .fields W i refl refl refl ∙ freed .w i ∙ ap (λ (y : ℕ). cond (member i es) 0 y) (h .fields W i refl refl refl refl refl);
-              taken = λ i a. stands .parents i (not-me i a) (len-taken i a) ∙ freed .taken i a;
-              dead = λ i d a z. stands .dead i d z ∙ freed .places i a ∙ h .fields PE i refl refl refl refl refl;
-              parents = λ i d a z. stands .parents i d z ∙ freed .parents i a ∙ h .parents i;
+              fields = λ k i a b d e o f u v w. stands .fields k i a b o ∙ stays k i b ∙ h .fields k i d e u v w ∙ freed .fields k i b f a;
+              w = λ i. stands .fields W i refl refl refl ∙ stays W i refl ∙ h .fields W i refl refl refl refl refl ∙ freed .w i;
+              taken = λ i a. stands .parents i (not-me i a) (len-taken i a) ∙ parents₂ i ∙ freed .taken i a;
+              dead = λ i d a z. stands .dead i d z ∙ stays PE i refl ∙ h .fields PE i refl refl refl refl refl ∙ freed .others PE i a;
+              parents = λ i d a z. stands .parents i d z ∙ parents₂ i ∙ freed .parents i a;
               kept = λ b. let y = stay b in (y .0, y .1, rw (y .2));
               moved = λ b. let y = move b in (y .0 ∙ ap (λ (k : ℕ). sumTo n L - k) (h .mark), rw (lt-ltb 0 (t .mark) (y .1)));
             }
@@ -255,19 +278,14 @@ module _ (n : ℕ) (X : ℕ → List ℕ) (l s : List ℤ) (made base lim : ℕ)
       mark-some : quota < length q → 0 < t .mark
       mark-some b = omega (arith, h .mark, h .early quota b)
 
-      all-lengths : allLengths n s₁ ≡ sumTo n L
-      all-lengths =
-          let e = sum-same n L (rd n LEN s₁) (λ i a. len-of l (places n s₁) lim X (space₁ .lists) i) in
-          lengths-sum n s₁ (omega (arith, all-low)) ∙ e
-
       either-way : sumTo n L + n ≤ length l → (quota < length q) ⊎ (length q ≤ quota)
-          → Gathered n X l s made base lim me es q (settled n me made t (madeRoom n me base lim made (t .mark) l s₁))
-      unfolding collectedRest s₂
+          → Gathered n X l s made base lim me es q (settled n me made t (madeRoom n me base lim made t l s₁))
+      unfolding s₂
       either-way room (inl b) =
-          rw (← room-yes-step n me base lim made (t .mark) l s₁ (collectedRest n me base lim made (t .mark) l s₁) refl (mark-some b))
-          (whole (collectedRest n me base lim made (t .mark) l s₁) (ready-moved room) (λ d. absurd (omega arith)) (λ d. (ap (λ (k : ℕ). k - t .mark) all-lengths, mark-some b)))
+          rw (← room-yes-step n me base lim made t l s₁ s₂ refl (collectedRest n base lim made t l s₂) refl (mark-some b))
+          (whole (collectedRest n base lim made t l s₂) (ready-moved room) (λ d. absurd (omega arith)) (λ d. (moved-end room, mark-some b)))
       either-way room (inr b) =
-          rw (← room-no-step n me base lim made (t .mark) l s₁ s₂ refl (omega (arith, mark-none b)))
+          rw (← room-no-step n me base lim made t l s₁ s₂ refl (omega (arith, mark-none b)))
           (whole (cleared l s₂ (record { base = base; end = lim })) (ready-kept b) (λ d. (refl, refl, mark-none b)) (λ d. absurd (omega arith)))
 
     -- THE gather

@@ -20,7 +20,7 @@ use Rattle.cells.proofs.Slices.{same?, split}
 use Rattle.cells.specs.Layout.{LEN, ORD, PE, W}
 use Rattle.cells.specs.Links.{hang, named}
 use Rattle.cells.specs.View.{Room, at, rd, up, wr}
-use Rattle.packed.specs.Gather.{absorbed}
+use Rattle.packed.specs.Tray.{absorbed}
 use Rattle.packed.specs.Places.{Mem, Owns, Space, places}
 use Rattle.packed.proofs.Frame.{ends, mem-by, other-field}
 use Rattle.packed.proofs.Objects.{Off, lowered, renamed, rewritten, stored}

@@ -9,7 +9,6 @@ use mathlib.Core.Path.{_∙_, _≡_, ap, refl}
 use borrow.Author.Tests.{lt-ltb}
 use lib.Dec.{eqb, ltb}
 use lib.IntN.{ℤ}
-use lib.ListN.{length}
 use Rattle.plain.proofs.Logic.{cond-has}
 use Rattle.plain.proofs.Repeats.{length-countUp}
 use Rattle.plain.proofs.Sums.{total-most}
@@ -18,15 +17,14 @@ use Rattle.plain.specs.Lists.{upTo}
 use Rattle.plain.specs.Turns.{times}
 use Rattle.cells.proofs.Laws.{mem, rd-up-field, room-yes}
 use Rattle.cells.proofs.Slices.{same?}
-use Rattle.cells.specs.Layout.{ELEN, LEN, ORD, PE, TMP, W, WANT}
-use Rattle.cells.specs.Rows.{clipped}
-use Rattle.cells.specs.View.{Room, at, rd, up}
+use Rattle.cells.specs.Layout.{LEN, ORD, PE, TMP, WANT}
+use Rattle.cells.specs.View.{Room, rd, up}
 use Rattle.chain.proofs.Unlink.{removed-other}
 use Rattle.chain.specs.Model.{removed}
-use Rattle.packed.specs.Gather.{Cleared, absorbed, absorbedPart, cleared, collectedRest, droppedAll, madeRoom}
+use Rattle.packed.specs.Gather.{Cleared, cleared, collectedRest, madeRoom}
 use Rattle.packed.specs.Model.{Heap, heap, movedDown, movedLow, movedNew, movedNext, movedOne, packedAll, packedLow}
 use Rattle.packed.specs.Places.{due, places}
-use Rattle.packed.specs.Tray.{Tabled, counted, wanted}
+use Rattle.packed.specs.Tray.{Tabled, absorbed, counted, wanted}
 use Rattle.packed.proofs.Sums.{sum-change, sum-same}
 use Rattle.packed.specs.declared.Ends.{Ends}
 use Rattle.packed.specs.declared.Tray.{Tray}
@@ -107,24 +105,17 @@ tabled-row n x quota reads s t a b r ha hb hr h room hx hc =
     by i l (inl e) = rw e (let z : rd n TMP (up n TMP s (t .cnt) x) (t .cnt) ≡ x = simp (mem, room-yes n s room, lt-ltb (t .cnt) n (omega arith)) in omega (arith, z))
     by i l (inr d) = let z : rd n TMP (up n TMP s (t .cnt) x) i ≡ rd n TMP s i = simp mem in omega (arith, z, h .rows i (omega (arith, d)))
 
--- ---- room is made beside it
+-- ---- what else happens beside it
 
-module _ (n c i : ℕ) (hl : eqb LEN c ≡ false) (hp : eqb PE c ≡ false) (hw : eqb W c ≡ false) where
+-- an element is taken up
+pub tabled-absorbed : (n me e : ℕ) (s a : List ℤ) (k : ℕ) → a ≡ absorbed n me e s → Tabled n s k → Tabled n a k
+unfolding absorbed
+tabled-absorbed n me e s a k ha h = rw ha (tabled-same n s (absorbed n me e s) k (λ t. simp mem) (omega (arith, wanted-same n s (absorbed n me e s) (λ i. simp mem))) h)
+
+module _ (n c i : ℕ) (hl : eqb LEN c ≡ false) (hp : eqb PE c ≡ false) where
   -- cell i of field c is as in s
   abbrev Kept : List ℤ → List ℤ → Type 0
   Kept s m = rd n c m i ≡ rd n c s i
-
-  kept-absorbed : (me e : ℕ) (s : List ℤ) → Kept s (absorbed n me e s)
-  unfolding absorbed
-  kept-absorbed me e s = simp (mem, hl, hp, hw)
-
-  kept-dropped : (l : List ℤ) (me : ℕ) (s : List ℤ) → Kept s (droppedAll n l me s)
-  unfolding droppedAll absorbedPart
-  kept-dropped l me s =
-      let p = rd n PE s me in
-      let k = clipped (length l) p (rd n ELEN s me) in
-      rd-up-field n LEN c (times k (λ t. absorbed n me (at l (p + t))) s) me 0 i hl
-      ∙ times-keeps (λ t m. Kept s m) (λ t. absorbed n me (at l (p + t))) k (λ t m b e. kept-absorbed me (at l (p + t)) m ∙ e) k s (omega arith) refl
 
   kept-one : (top j : ℕ) (m : Heap) → Kept (m .mem) (movedOne n top j m .mem)
   unfolding movedOne movedDown
@@ -140,13 +131,14 @@ module _ (n c i : ℕ) (hl : eqb LEN c ≡ false) (hp : eqb PE c ≡ false) (hw 
       times-keeps (λ t (m : Heap). Kept s (m .mem)) (movedNext n lim) cnt (λ t m b e. kept-next lim t m ∙ e) cnt (times n (movedOne n base) (heap l s 0)) (omega arith)
       (times-keeps (λ t (m : Heap). Kept s (m .mem)) (movedOne n base) n (λ t m b e. kept-one base t m ∙ e) n (heap l s 0) (omega arith) refl)
 
-  kept-room : (me base lim cnt mark : ℕ) (l s : List ℤ) → Kept s (madeRoom n me base lim cnt mark l s .mem)
+  kept-room : (me base lim cnt : ℕ) (t : Tray) (l s : List ℤ) → Kept s (madeRoom n me base lim cnt t l s .mem)
   unfolding madeRoom collectedRest
-  kept-room me base lim cnt mark l s =
-      cond-has (λ (y : Cleared). Kept s (y .mem)) (ltb 0 mark)
-      (λ e. kept-packed base lim cnt l (droppedAll n l me s) ∙ kept-dropped l me s) (λ e. kept-dropped l me s)
+  kept-room me base lim cnt t l s =
+      let e = rd-up-field n LEN c s me 0 i hl in
+      cond-has (λ (y : Cleared). Kept s (y .mem)) (ltb 0 (t .mark)) (λ z. kept-packed base lim cnt l (up n LEN s me 0) ∙ e) (λ z. e)
 
-pub tabled-room : (n me base lim cnt mark : ℕ) (l s l₂ s₂ : List ℤ) (e : Ends) (k : ℕ) → Tabled n s k → cleared l₂ s₂ e ≡ madeRoom n me base lim cnt mark l s → Tabled n s₂ k
-tabled-room n me base lim cnt mark l s l₂ s₂ e k h c =
-    tabled-same n s s₂ k (λ t. ap (λ (y : Cleared). rd n TMP (y .mem) t) c ∙ kept-room n TMP t refl refl refl me base lim cnt mark l s)
-    (omega (arith, wanted-same n s s₂ (λ t. ap (λ (y : Cleared). rd n WANT (y .mem) t) c ∙ kept-room n WANT t refl refl refl me base lim cnt mark l s))) h
+-- room is made
+pub tabled-room : (n me base lim cnt : ℕ) (t : Tray) (l s l₂ s₂ : List ℤ) (e : Ends) (k : ℕ) → Tabled n s k → cleared l₂ s₂ e ≡ madeRoom n me base lim cnt t l s → Tabled n s₂ k
+tabled-room n me base lim cnt t l s l₂ s₂ e k h c =
+    tabled-same n s s₂ k (λ i. ap (λ (y : Cleared). rd n TMP (y .mem) i) c ∙ kept-room n TMP i refl refl me base lim cnt t l s)
+    (omega (arith, wanted-same n s s₂ (λ i. ap (λ (y : Cleared). rd n WANT (y .mem) i) c ∙ kept-room n WANT i refl refl me base lim cnt t l s))) h

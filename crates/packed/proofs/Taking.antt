@@ -21,14 +21,15 @@ use Rattle.definition.specs.Room.{Read}
 use Rattle.cells.proofs.Fields.{rd-null, room-up}
 use Rattle.cells.proofs.Laws.{mem, parent-up-field, rd-up-field, room-yes}
 use Rattle.cells.proofs.Slices.{same?, split, wrapped-sum}
-use Rattle.cells.specs.Layout.{HEAD, LAST, NEXT, TMP, WANT}
+use Rattle.cells.specs.Layout.{DEGREE, HEAD, LAST, LEN, NEXT, PE, TMP, W, WANT}
 use Rattle.cells.specs.Links.{parent}
 use Rattle.cells.specs.View.{Room, rd, up, wrapped}
-use Rattle.chain.proofs.Alike.{Alike, alike-self, alike-then, fold-room, removed-alike}
+use Rattle.chain.proofs.Alike.{Alike, alike-back, alike-self, alike-then, fold-alike, fold-room, removed-alike}
 use Rattle.chain.proofs.Unlink.{removed-other, removed-parent, removed-room}
 use Rattle.chain.specs.Model.{removed}
 use Rattle.packed.specs.Reading.{entriesOf, pickOne, sofarOf}
-use Rattle.packed.specs.Tray.{Taking, counted, emptyTray, passedBy, taking, took, tookRow}
+use Rattle.packed.specs.Tray.{Taking, absorbed, counted, emptyTray, passedBy, taking, took, tookRow}
+use Rattle.packed.proofs.Dropping.{absorbed-field, absorbed-len, absorbed-named, absorbed-other, absorbed-parent, absorbed-place, absorbed-room, absorbed-w}
 use Rattle.packed.proofs.Picked.{foldl-append}
 use Rattle.packed.specs.declared.Tray.{Tray}
 
@@ -110,6 +111,48 @@ module _ (n : ℕ) (quota : ℕ) (s : List ℤ) (room : Room n s) where
         late = λ k. omega (arith, h .late k);
         early = h .early;
       }
+
+  -- an element is taken up, here and there
+  module _ (me x : ℕ) (b : x < n) where
+    absorbed-here : (s′ : List ℤ) → Room n s′ → (c : ℕ) → rd n c s′ x ≡ rd n c s x → (c ≡ W) ⊎ (c ≢ W) → (c ≡ LEN) ⊎ (c ≢ LEN) → (c ≡ PE) ⊎ (c ≢ PE)
+        → rd n c (absorbed n me x s′) x ≡ rd n c (absorbed n me x s) x
+    absorbed-here s′ r c e (inl u) v y = rw (u, absorbed-w n me s′ x r b, absorbed-w n me s x room b)
+    absorbed-here s′ r c e (inr u) (inl v) y = rw (v, absorbed-len n me s′ x r b, absorbed-len n me s x room b)
+    absorbed-here s′ r c e (inr u) (inr v) (inl y) = rw (y, absorbed-place n me s′ x, absorbed-place n me s x)
+    absorbed-here s′ r c e (inr u) (inr v) (inr y) =
+        absorbed-field n me s′ x c x (ne-eqb LEN c (λ z. v (sym z))) (ne-eqb W c (λ z. u (sym z))) (ne-eqb PE c (λ z. y (sym z))) ∙ e
+        ∙ sym (absorbed-field n me s x c x (ne-eqb LEN c (λ z. v (sym z))) (ne-eqb W c (λ z. u (sym z))) (ne-eqb PE c (λ z. y (sym z))))
+
+    absorbed-alike : (s′ : List ℤ) → Alike n s′ (absorbed n me x s′)
+    absorbed-alike s′ =
+        record {
+          head = λ i. absorbed-field n me s′ x HEAD i refl refl refl;
+          next = λ i. absorbed-field n me s′ x NEXT i refl refl refl;
+          last = λ i. absorbed-field n me s′ x LAST i refl refl refl;
+          degree = λ i. absorbed-field n me s′ x DEGREE i refl refl refl;
+        }
+
+    pub holds-absorbed : (q : List Read) (r : ℕ) (m : Taking) → Holds n quota s q r m → Holds n quota (absorbed n me x s) q r (taking (absorbed n me x (m .mem)) (m .tray))
+    holds-absorbed q r m h =
+        record {
+          cnt = h .cnt;
+          reads = h .reads;
+          mark = h .mark;
+          table = entries-same (rd n TMP (m .mem)) (rd n TMP (absorbed n me x (m .mem))) 0 0 (length q) (λ t l. absorbed-field n me (m .mem) x TMP (0 + t) refl refl refl) ∙ h .table;
+          want = λ i. absorbed-field n me (m .mem) x WANT i refl refl refl ∙ h .want i ∙ ap (λ (y : ℕ). cond (member i (entriesOf q)) 0 y) (sym (absorbed-field n me s x WANT i refl refl refl));
+          queues = alike-then (alike-then (fold-alike n (entriesOf q) (absorbed n me x s) s (absorbed-room n me s x room) room (alike-back (absorbed-alike s))) (h .queues)) (absorbed-alike (m .mem));
+          fields = λ c i u v e f g. ⊎-elim
+              (λ y. rw y (absorbed-here (m .mem) (h .room) c (h .fields c x u v e f g) (same? c W) (same? c LEN) (same? c PE)))
+              (λ d. absorbed-other n me (m .mem) x c i d ∙ h .fields c i u v e f g ∙ sym (absorbed-other n me s x c i d)) (same? i x);
+          parents = λ i. ⊎-elim
+              (λ y. rw y (absorbed-named n me (m .mem) x (h .room) b ∙ sym (absorbed-named n me s x room b)))
+              (λ d. absorbed-parent n me (m .mem) x i d ∙ h .parents i ∙ sym (absorbed-parent n me s x i d)) (same? i x);
+          room = absorbed-room n me (m .mem) x (h .room);
+          once = h .once;
+          low = h .low;
+          late = h .late;
+          early = h .early;
+        }
 
   module _ (q : List Read) (r : ℕ) (m : Taking) (h : Holds n quota s q r m) (x : ℕ) where
     abbrev a : Read

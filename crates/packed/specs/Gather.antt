@@ -1,4 +1,4 @@
--- A gather as the code does it: the elements that are read are taken up, room is made, and the new list is stored.
+-- A gather as the code does it: lists are read, room is made, and the new list is stored.
 -- Assumes nothing.
 use Prim.Native.Nat.{_+_, _-_, _<_, _^_, ℕ}
 use mathlib.Core.Bool.{cond}
@@ -7,8 +7,7 @@ use lib.Dec.{ltb}
 use lib.IntN.{ℤ}
 use lib.ListN.{length}
 use Rattle.plain.specs.Turns.{times}
-use Rattle.cells.specs.Layout.{ELEN, LEN, PE, W}
-use Rattle.cells.specs.Links.{hang, named}
+use Rattle.cells.specs.Layout.{LEN, PE}
 use Rattle.cells.specs.Rows.{clipped}
 use Rattle.cells.specs.View.{at, plus, rd, up, wr}
 use Rattle.packed.specs.Model.{entered, laid, packedAll, packedLow}
@@ -16,27 +15,6 @@ use Rattle.packed.specs.Tray.{Taking, emptyTray, taking, tookAll, tookPa
 use Rattle.packed.specs.declared.Tray.{Tray}
 use Rattle.packed.specs.declared.Ends.{Ends}
 use Rattle.packed.specs.declared.Made.{Made}
-
--- ---- what is read is taken up
-
--- element e is no more: me is its parent, and it has no list
-unfoldable pub absorbed : ℕ → ℕ → ℕ → List ℤ → List ℤ
-absorbed n me e s = hang n (up n LEN (up n W s e 0) e 0) e (named n me)
-
--- the elements whose numbers are in a part of the list space, as far as it is there
-unfoldable pub absorbedPart : ℕ → List ℤ → ℕ → ℕ → ℕ → List ℤ → List ℤ
-absorbedPart n l me p k s = times (clipped (length l) p k) (λ t. absorbed n me (at l (p + t))) s
-
-unfoldable pub droppedAll : ℕ → List ℤ → ℕ → List ℤ → List ℤ
-droppedAll n l me s = up n LEN (absorbedPart n l me (rd n PE s me) (rd n ELEN s me) s) me 0
-
--- ---- the cells that all lists hold
-
-unfoldable pub addedLength : ℕ → List ℤ → ℕ → ℕ → ℕ
-addedLength n s j sum = plus sum (rd n LEN s j)
-
-unfoldable pub allLengths : ℕ → List ℤ → ℕ
-allLengths n s = times n (addedLength n s) 0
 
 -- ---- the new element's place
 
@@ -49,15 +27,17 @@ pub record Cleared : Type 0 where
 abbrev pub cleared : List ℤ → List ℤ → Ends → Cleared
 cleared l s e = record { lists = l; mem = s; ends = e }
 
--- as a collection leaves it, whose end stands as in the middle of the reading
-unfoldable pub collectedRest : ℕ → ℕ → ℕ → ℕ → ℕ → ℕ → List ℤ → List ℤ → Cleared
-collectedRest n me base lim cnt mark l s =
-    cleared (packedAll n base lim cnt l (droppedAll n l me s) .lists) (packedAll n base lim cnt l (droppedAll n l me s) .mem)
-    (record { base = packedLow n base l (droppedAll n l me s) .end; end = allLengths n s - mark })
+-- as a collection leaves it in the middle of the reading: the entries that are not read yet still have their cells, as far as there are cells
+unfoldable pub collectedRest : ℕ → ℕ → ℕ → ℕ → Tray → List ℤ → List ℤ → Cleared
+collectedRest n base lim cnt t l s =
+    let m = packedAll n base lim cnt l s in
+    cleared (m .lists) (m .mem) (record { base = packedLow n base l s .end; end = m .end + clipped (length l) (m .end) (t .reads - t .mark) })
 
-unfoldable pub madeRoom : ℕ → ℕ → ℕ → ℕ → ℕ → ℕ → List ℤ → List ℤ → Cleared
-madeRoom n me base lim cnt mark l s =
-    cond (ltb 0 mark) (collectedRest n me base lim cnt mark l s) (cleared l (droppedAll n l me s) (record { base = base; end = lim }))
+-- me has no list any more
+unfoldable pub madeRoom : ℕ → ℕ → ℕ → ℕ → ℕ → Tray → List ℤ → List ℤ → Cleared
+madeRoom n me base lim cnt t l s =
+    let r = up n LEN s me 0 in
+    cond (ltb 0 (t .mark)) (collectedRest n base lim cnt t l r) (cleared l r (record { base = base; end = lim }))
 
 -- ---- the whole, outside of the old place
 
@@ -96,7 +76,7 @@ settled n me made t c =
 unfoldable pub gatheredOutside : ℕ → ℕ → ℕ → ℕ → ℕ → List ℤ → List ℤ → Outside
 gatheredOutside n me base lim made l s =
     let m = tookAll n (length l - lim) l s me in
-    settled n me made (m .tray) (madeRoom n me base lim made (m .tray .mark) l (m .mem))
+    settled n me made (m .tray) (madeRoom n me base lim made (m .tray) l (m .mem))
 
 -- ---- in its own place
 

@@ -1,4 +1,4 @@
--- A gather's reading, as the code does it: numbers go from lists into the scratch table and out of their degree lists, no list moving.
+-- A gather's reading, as the code does it: numbers go from lists into the scratch table and out of their degree lists, no list moving; the elements that are read are taken up.
 -- Assumes nothing.
 use Prim.Native.Nat.{_+_, _-_, _<_, _≤_, ℕ}
 use mathlib.Core.Bool.{cond}
@@ -7,7 +7,8 @@ use lib.Dec.{eqb, ltb}
 use lib.IntN.{ℤ}
 use lib.ListN.{length}
 use Rattle.plain.specs.Turns.{times}
-use Rattle.cells.specs.Layout.{ELEN, LEN, PE, TMP, WANT}
+use Rattle.cells.specs.Layout.{ELEN, LEN, PE, TMP, W, WANT}
+use Rattle.cells.specs.Links.{hang, named}
 use Rattle.cells.specs.Rows.{clipped}
 use Rattle.cells.specs.View.{at, plus, rd, up, wrapped}
 use Rattle.chain.specs.Model.{removed}
@@ -54,14 +55,18 @@ took n quota x m =
 unfoldable pub tookPart : ℕ → ℕ → List ℤ → ℕ → ℕ → Taking → Taking
 tookPart n quota l p k m = times (clipped (length l) p k) (λ t. took n quota (at l (p + t))) m
 
--- the number of an element, and then the element's own list
-unfoldable pub tookElement : ℕ → ℕ → List ℤ → ℕ → Taking → Taking
-tookElement n quota l q m =
-    tookPart n quota l (rd n PE (m .mem) (at l q)) (rd n LEN (m .mem) (at l q)) (taking (m .mem) (passedBy (m .tray)))
+-- element e is no more: me took it up, and it has no list
+unfoldable pub absorbed : ℕ → ℕ → ℕ → List ℤ → List ℤ
+absorbed n me e s = hang n (up n LEN (up n W s e 0) e 0) e (named n me)
+
+-- the number of element e is read, me takes it up, and what was its list is read
+unfoldable pub tookElement : ℕ → ℕ → ℕ → List ℤ → ℕ → Taking → Taking
+tookElement n me quota l e m =
+    tookPart n quota l (rd n PE (m .mem) e) (rd n LEN (m .mem) e) (taking (absorbed n me e (m .mem)) (passedBy (m .tray)))
 
 -- the elements whose numbers are in a part of the list space
-unfoldable pub tookElements : ℕ → ℕ → List ℤ → ℕ → ℕ → Taking → Taking
-tookElements n quota l p k m = times (clipped (length l) p k) (λ t. tookElement n quota l (p + t)) m
+unfoldable pub tookElements : ℕ → ℕ → ℕ → List ℤ → ℕ → ℕ → Taking → Taking
+tookElements n me quota l p k m = times (clipped (length l) p k) (λ t. tookElement n me quota l (at l (p + t))) m
 
 -- the part of a list behind its elements
 unfoldable pub ownPart : ℕ → List ℤ → ℕ → Part
@@ -76,4 +81,4 @@ emptyTray = record { cnt = 0; reads = 0; mark = 0 }
 
 -- the whole reading of a gather
 unfoldable pub tookAll : ℕ → ℕ → List ℤ → List ℤ → ℕ → Taking
-tookAll n quota l s me = tookOwn n quota l me (tookElements n quota l (rd n PE s me) (rd n ELEN s me) (taking s emptyTray))
+tookAll n quota l s me = tookOwn n quota l me (tookElements n me quota l (rd n PE s me) (rd n ELEN s me) (taking s emptyTray))

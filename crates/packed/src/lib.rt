@@ -7,8 +7,8 @@ ghost use Rattle.cells.specs.View.{Room, at};
 ghost use Rattle.cells.specs.Rows.{Rows};
 ghost use Rattle.packed.specs.Places.{places, due};
 ghost use Rattle.packed.specs.Model.{copied, heap, movedOne, movedLow, movedNext, movedNew, packedLow, packedAll, laid, entered};
-ghost use Rattle.packed.specs.Tray.{Tabled, wanted, taking, counted, tookRow, took, tookPart, tookElement, tookElements, ownPart, tookAll};
-ghost use Rattle.packed.specs.Gather.{absorbed, absorbedPart, droppedAll, addedLength, allLengths, cleared, collectedRest, madeRoom, outside, Brief, summed, gatheredOutside, inside, gatheredInside};
+ghost use Rattle.packed.specs.Tray.{Tabled, wanted, taking, counted, tookRow, took, tookPart, absorbed, tookElement, tookElements, ownPart, tookAll};
+ghost use Rattle.packed.specs.Gather.{cleared, collectedRest, madeRoom, outside, Brief, summed, gatheredOutside, inside, gatheredInside};
 
 // The end of the lists that go by number, and the end of all.
 pub struct Ends {
@@ -233,14 +233,32 @@ pub fn take_part(
     t
 }
 
-// Reads the number of an element in cell `q`, and then the element's own list.
-pub fn take_element(lists: &[i64], s: &mut [i64], n: usize, q: usize, quota: usize, t: Tray) -> Tray
-    requires { ⌜ Room n (now s) × Rows n (now lists) × (q < length (now lists)) × Tabled n (now s) (t .cnt) ⌝ }
-    ensures { λ r. ⌜ (taking (now (s .exit)) r ≡ tookElement n quota (now (lists .entry)) q (taking (now (s .entry)) t)) × Room n (now (s .exit)) × Tabled n (now (s .exit)) (r .cnt) ⌝ }
+// Element `e` is no more: `me` took it up, and it has no list.
+pub fn absorb(s: &mut [i64], n: usize, me: usize, e: usize)
+    requires { ⌜ Room n (now s) × (e < n) ⌝ }
+    ensures { λ _. ⌜ (now (s .exit) ≡ absorbed n me e (now (s .entry))) × Room n (now (s .exit)) ⌝ }
 {
-    let e = cells::row(lists, n, q);
+    cells::set(s, n, cells::W, e, 0);
+    cells::set(s, n, cells::LEN, e, 0);
+    cells::put_parent(s, n, e, me);
+}
+
+// Reads the number of element `e`, which `me` takes up, and then what was its list.
+pub fn take_element(
+    lists: &[i64],
+    s: &mut [i64],
+    n: usize,
+    me: usize,
+    e: usize,
+    quota: usize,
+    t: Tray,
+) -> Tray
+    requires { ⌜ Room n (now s) × Rows n (now lists) × (e < n) × Tabled n (now s) (t .cnt) ⌝ }
+    ensures { λ r. ⌜ (taking (now (s .exit)) r ≡ tookElement n me quota (now (lists .entry)) e (taking (now (s .entry)) t)) × Room n (now (s .exit)) × Tabled n (now (s .exit)) (r .cnt) ⌝ }
+{
     let p = cells::get(s, n, cells::PE, e);
     let k = cells::get(s, n, cells::LEN, e);
+    absorb(s, n, me, e);
     let reads = std::num::wrapping_add_usize(t.reads, 1);
     take_part(
         lists,
@@ -257,23 +275,25 @@ pub fn take_element(lists: &[i64], s: &mut [i64], n: usize, q: usize, quota: usi
     )
 }
 
-// The same of each of the `k` numbers from `p` on.
+// The same of each of the `k` elements whose numbers are from `p` on.
 pub fn take_elements(
     lists: &[i64],
     s: &mut [i64],
     n: usize,
+    me: usize,
     p: usize,
     k: usize,
     quota: usize,
     start: Tray,
 ) -> Tray
     requires { ⌜ Room n (now s) × Rows n (now lists) × (p < 2 ^ 63) × (k < 2 ^ 63) × Tabled n (now s) (start .cnt) ⌝ }
-    ensures { λ r. ⌜ (taking (now (s .exit)) r ≡ tookElements n quota (now (lists .entry)) p k (taking (now (s .entry)) start)) × Room n (now (s .exit)) × Tabled n (now (s .exit)) (r .cnt) ⌝ }
+    ensures { λ r. ⌜ (taking (now (s .exit)) r ≡ tookElements n me quota (now (lists .entry)) p k (taking (now (s .entry)) start)) × Room n (now (s .exit)) × Tabled n (now (s .exit)) (r .cnt) ⌝ }
 {
     let m = cells::clip(lists.len(), p, k);
     let mut t = start;
     for i in 0..m {
-        t = take_element(lists, s, n, p + i, quota, t);
+        let e = cells::row(lists, n, p + i);
+        t = take_element(lists, s, n, me, e, quota, t);
     }
     t
 }
@@ -300,7 +320,7 @@ pub fn own_part(s: &[i64], n: usize, me: usize) -> Part
     }
 }
 
-// Reads the lists of the elements of `me` in order, and then its own variables.
+// Reads the lists of the elements of `me` in order, which it takes up, and then its own variables.
 pub fn take_all(lists: &[i64], s: &mut [i64], n: usize, me: usize, quota: usize) -> Tray
     requires { ⌜ Room n (now s) × Rows n (now lists) × (me < n) ⌝ }
     ensures { λ r. ⌜ (taking (now (s .exit)) r ≡ tookAll n quota (now (lists .entry)) (now (s .entry)) me) × Room n (now (s .exit)) × Tabled n (now (s .exit)) (r .cnt) × (r .cnt < 2 ^ 63) ⌝ }
@@ -311,6 +331,7 @@ pub fn take_all(lists: &[i64], s: &mut [i64], n: usize, me: usize, quota: usize)
         lists,
         s,
         n,
+        me,
         p,
         k,
         quota,
@@ -324,97 +345,32 @@ pub fn take_all(lists: &[i64], s: &mut [i64], n: usize, me: usize, quota: usize)
     take_part(lists, s, n, own.from, own.len, quota, t)
 }
 
-// ---- what is read is taken up
-
-// Element `e` is no more: `me` took it up, and it has no list.
-pub fn absorb(s: &mut [i64], n: usize, me: usize, e: usize)
-    requires { ⌜ Room n (now s) × (e < n) ⌝ }
-    ensures { λ _. ⌜ (now (s .exit) ≡ absorbed n me e (now (s .entry))) × Room n (now (s .exit)) ⌝ }
-{
-    cells::set(s, n, cells::W, e, 0);
-    cells::set(s, n, cells::LEN, e, 0);
-    cells::put_parent(s, n, e, me);
-}
-
-// The same of the element whose number is in cell `q`.
-fn absorb_at(lists: &[i64], s: &mut [i64], n: usize, me: usize, q: usize)
-    requires { ⌜ Room n (now s) × Rows n (now lists) × (q < length (now lists)) ⌝ }
-    ensures { λ _. ⌜ (now (s .exit) ≡ absorbed n me (at (now (lists .entry)) q) (now (s .entry))) × Room n (now (s .exit)) ⌝ }
-{
-    let e = cells::row(lists, n, q);
-    absorb(s, n, me, e);
-}
-
-// The same of each of the `k` numbers from `p` on.
-fn absorb_part(lists: &[i64], s: &mut [i64], n: usize, me: usize, p: usize, k: usize)
-    requires { ⌜ Room n (now s) × Rows n (now lists) × (p < 2 ^ 63) × (k < 2 ^ 63) ⌝ }
-    ensures { λ _. ⌜ (now (s .exit) ≡ absorbedPart n (now (lists .entry)) me p k (now (s .entry))) × Room n (now (s .exit)) ⌝ }
-{
-    let m = cells::clip(lists.len(), p, k);
-    for t in 0..m {
-        absorb_at(lists, s, n, me, p + t);
-    }
-}
-
-// `me` takes up its elements, and has no list itself.
-pub fn drop_all(lists: &[i64], s: &mut [i64], n: usize, me: usize)
-    requires { ⌜ Room n (now s) × Rows n (now lists) × (me < n) ⌝ }
-    ensures { λ _. ⌜ (now (s .exit) ≡ droppedAll n (now (lists .entry)) me (now (s .entry))) × Room n (now (s .exit)) ⌝ }
-{
-    let p = cells::get(s, n, cells::PE, me);
-    let k = cells::get(s, n, cells::ELEN, me);
-    absorb_part(lists, s, n, me, p, k);
-    cells::set(s, n, cells::LEN, me, 0);
-}
-
-// The length of the list of `j`, added.
-pub fn add_length(s: &[i64], n: usize, j: usize, sum: usize) -> usize
-    requires { ⌜ Room n (now s) × (sum < 2 ^ 63) ⌝ }
-    ensures { λ r. ⌜ (r ≡ addedLength n (now (s .entry)) j sum) × (r < 2 ^ 63) ⌝ }
-{
-    let k = cells::rd(s, n, cells::LEN, j);
-    cells::plus(sum, k)
-}
-
-// The cells that all lists hold.
-pub fn all_lengths(s: &[i64], n: usize) -> usize
-    requires { ⌜ Room n (now s) ⌝ }
-    ensures { λ r. ⌜ (r ≡ allLengths n (now (s .entry))) × (r < 2 ^ 63) ⌝ }
-{
-    let mut sum = 0;
-    for j in 0..n {
-        sum = add_length(s, n, j, sum);
-    }
-    sum
-}
-
 // ---- the new element's place
 
-// A collection of what is left when `me` and its elements are freed. The end is where it stands in the middle of the reading, with `mark` entries read.
+// A collection of what is left. The end is where it stands in the middle of the reading: the entries that are not read yet still have their cells.
 pub fn collect_rest(
     lists: &mut [i64],
     s: &mut [i64],
     n: usize,
-    me: usize,
     base: usize,
     lim: usize,
     cnt: usize,
-    mark: usize,
+    t: Tray,
 ) -> Ends
-    requires { ⌜ Room n (now s) × Rows n (now lists) × (me < n) ⌝ }
-    ensures { λ r. ⌜ (cleared (now (lists .exit)) (now (s .exit)) r ≡ collectedRest n me base lim cnt mark (now (lists .entry)) (now (s .entry))) × Room n (now (s .exit)) × Rows n (now (lists .exit)) × (r .end < 2 ^ 63) ⌝ }
+    requires { ⌜ Room n (now s) × Rows n (now lists) ⌝ }
+    ensures { λ r. ⌜ (cleared (now (lists .exit)) (now (s .exit)) r ≡ collectedRest n base lim cnt t (now (lists .entry)) (now (s .entry))) × Room n (now (s .exit)) × Rows n (now (lists .exit)) × (r .end < 2 ^ 63) ⌝ }
 {
-    let all = all_lengths(s, n);
-    drop_all(lists, s, n, me);
     let ends = collect(lists, s, n, base, lim, cnt);
-    let end = cells::less(all, mark);
+    let unread = cells::less(t.reads, t.mark);
+    let rest = cells::clip(lists.len(), ends.end, unread);
+    let end = ends.end + rest;
     Ends {
         base: ends.base,
         end: end,
     }
 }
 
-// `me` and its elements are freed, with a collection if the reading met the end of the room.
+// `me`, which was read, has no list any more; a collection follows if the reading met the end of the room.
 pub fn make_room(
     lists: &mut [i64],
     s: &mut [i64],
@@ -423,15 +379,15 @@ pub fn make_room(
     base: usize,
     lim: usize,
     cnt: usize,
-    mark: usize,
+    t: Tray,
 ) -> Ends
     requires { ⌜ Room n (now s) × Rows n (now lists) × (me < n) × (lim < 2 ^ 63) ⌝ }
-    ensures { λ r. ⌜ (cleared (now (lists .exit)) (now (s .exit)) r ≡ madeRoom n me base lim cnt mark (now (lists .entry)) (now (s .entry))) × Room n (now (s .exit)) × Rows n (now (lists .exit)) × (r .end < 2 ^ 63) ⌝ }
+    ensures { λ r. ⌜ (cleared (now (lists .exit)) (now (s .exit)) r ≡ madeRoom n me base lim cnt t (now (lists .entry)) (now (s .entry))) × Room n (now (s .exit)) × Rows n (now (lists .exit)) × (r .end < 2 ^ 63) ⌝ }
 {
-    if 0 < mark {
-        collect_rest(lists, s, n, me, base, lim, cnt, mark)
+    cells::set(s, n, cells::LEN, me, 0);
+    if 0 < t.mark {
+        collect_rest(lists, s, n, base, lim, cnt, t)
     } else {
-        drop_all(lists, s, n, me);
         Ends {
             base: base,
             end: lim,
@@ -483,7 +439,7 @@ pub fn gather_outside(
 {
     let quota = cells::less(lists.len(), lim);
     let t = take_all(lists, s, n, me, quota);
-    let ends = make_room(lists, s, n, me, base, lim, made, t.mark);
+    let ends = make_room(lists, s, n, me, base, lim, made, t);
     enter(lists, s, n, made, me, ends.end, t.cnt);
     summed(ends, t, made)
 }

@@ -20,7 +20,7 @@ use Rattle.cells.proofs.Fields.{rd-null}
 use Rattle.cells.proofs.Slices.{split}
 use Rattle.cells.specs.Layout.{W}
 use Rattle.cells.specs.View.{at, rd, wr}
-use Rattle.packed.specs.Gather.{absorbed}
+use Rattle.packed.specs.Tray.{absorbed}
 use Rattle.packed.specs.Places.{Space}
 use Rattle.trimming.specs.Model.{Keeping, counted, keeping, keptElement, keptElements, keptEntry, nothing, swallows}
 use Rattle.trimming.proofs.Filtering.{Left, keep-no-more, keep-one-more, left-more, left-same}

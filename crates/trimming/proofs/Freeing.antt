@@ -19,7 +19,7 @@ use Rattle.cells.specs.Layout.{LEN, W}
 use Rattle.cells.specs.Links.{hang, named, parent}
 use Rattle.cells.specs.View.{rd, roomy, up}
 use Rattle.packed.proofs.Spaces.{space-absorbed, space-renamed}
-use Rattle.packed.specs.Gather.{absorbed}
+use Rattle.packed.specs.Tray.{absorbed}
 use Rattle.packed.specs.Places.{Space}
 
 -- ---- one more in a list

@@ -17,7 +17,7 @@ use Rattle.cells.specs.Layout.{PE, LEN, WANT, ELEN, DEGREE, W, HHEAD, HNEXT, HK
 use Rattle.cells.specs.View.{at, plus, rd, up, wr, wrapped}
 use Rattle.cells.specs.Rows.{clipped}
 use Rattle.cells.specs.Links.{named, hang}
-use Rattle.packed.specs.Gather.{absorbed}
+use Rattle.packed.specs.Tray.{absorbed}
 use Rattle.trimming.specs.declared.Kept.{Kept}
 use Rattle.trimming.specs.declared.Merged.{Merged}
 use Rattle.trimming.specs.Model.{Keeping, Trimming, buried, counted, halfway, keeping, keptAll, keptElement, keptElements, keptEntry, keptLive, keptVariable, keptVariables, keyOf, keyed, lowered, massed, nothing, relisted, renewed, settled, sized, tookWeight, trimming, turned, updated, updatedAll, updatedAt}

@@ -1,4 +1,4 @@
-use Rattle.packed.proofs.Gathers.{absorb-step}
+use Rattle.packed.proofs.Trays.{absorb-step}
 use borrow.Author.Needs.{needs}
 use Rattle.packed.proofs.absorb.Statement.{statement}
 use Rattle.packed.proofs.absorb.Tie as tie

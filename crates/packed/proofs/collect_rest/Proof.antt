@@ -4,22 +4,21 @@ use Rattle.packed.proofs.collect_rest.Statement.{statement}
 use Rattle.packed.proofs.collect_rest.Tie as tie
 use Rattle.packed.proofs.collect_rest.Reads as reads
 use Rattle.packed.proofs.collect_rest.Lts as lts
+use Rattle.cells.proofs.clip.Reads as clip-reads
 use Rattle.cells.proofs.less.Reads as less-reads
-use Rattle.packed.proofs.all_lengths.Reads as all-lengths-reads
 use Rattle.packed.proofs.collect.Reads as collect-reads
-use Rattle.packed.proofs.drop_all.Reads as drop-all-reads
-
-all-lengths-requires : tie.Need-all-lengths-requires
-all-lengths-requires c κs = search needs
-
-drop-all-requires : tie.Need-drop-all-requires
-drop-all-requires c κs = search needs
 
 collect-requires : tie.Need-collect-requires
 collect-requires c κs = search needs
 
 less-requires : tie.Need-less-requires
 less-requires c κs = search needs
+
+clip-requires : tie.Need-clip-requires
+clip-requires c κs = search needs
+
+add-end : tie.Need-add-end
+add-end c = search needs
 
 same-length : tie.Need-same-length
 same-length c = search needs
@@ -34,10 +33,10 @@ pub collect-rest-spec : {M : Type 1} → statement M
 collect-rest-spec =
     tie.close
     (tie.spec
-    all-lengths-requires
-    drop-all-requires
     collect-requires
     less-requires
+    clip-requires
+    add-end
     same-length
     same-length-2
     returns)
