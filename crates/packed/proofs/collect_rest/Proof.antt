@@ -27,7 +27,7 @@ same-length-2 : tie.Need-same-length-2
 same-length-2 c = search needs
 
 returns : tie.Need-returns
-returns c = search (needs, rest-step)
+returns c = (rest-step _ _ _ _ _ _ _ _ _ _ _ _ _ _ (c .before .before .before .before .before .collect .ensures .0) (c .before .before .before .before .before .collect .ensures .1) (c .before .before .less .ensures) (c .before .clip .ensures .0) (search needs) (search needs), search needs, search needs, search needs)
 
 pub collect-rest-spec : {M : Type 1} → statement M
 collect-rest-spec =
