@@ -325,13 +325,21 @@ pub fn parent(s: &[i64], n: usize, i: usize) -> usize
     if i < n { link_of(n, s[8 * i]) } else { n }
 }
 
-// Object `i` gets the parent `p`, or none where `p` is not below `n`; nothing is done where `i` is not.
+// Object `i` gets the parent `p`, or none where `p` is not below `n`.
+pub fn set_parent(s: &mut [i64], n: usize, i: usize, p: usize)
+    requires { ⌜ Room n (now s) × (i < n) ⌝ }
+    ensures { λ _. ⌜ (now (s .exit) ≡ hang n (now (s .entry)) i (named n p)) × Room n (now (s .exit)) ⌝ }
+{
+    s[8 * i] = code_of(n, p);
+}
+
+// The same; nothing is done where `i` is not below `n`.
 pub fn put_parent(s: &mut [i64], n: usize, i: usize, p: usize)
     requires { ⌜ Room n (now s) ⌝ }
     ensures { λ _. ⌜ (now (s .exit) ≡ hang n (now (s .entry)) i (named n p)) × Room n (now (s .exit)) ⌝ }
 {
     if i < n {
-        s[8 * i] = code_of(n, p);
+        set_parent(s, n, i, p);
     }
 }
 

@@ -240,7 +240,7 @@ pub fn absorb(s: &mut [i64], n: usize, me: usize, e: usize)
 {
     cells::set(s, n, cells::W, e, 0);
     cells::set(s, n, cells::LEN, e, 0);
-    cells::put_parent(s, n, e, me);
+    cells::set_parent(s, n, e, me);
 }
 
 // Reads the number of element `e`, which `me` takes up, and then what was its list.
