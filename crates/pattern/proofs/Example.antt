@@ -9,7 +9,7 @@ use lib.ListN.{replicate}
 use Rattle.plain.specs.Lists.{leading}
 use Rattle.plain.specs.Turns.{entries, times}
 use Rattle.cells.specs.View.{at, wr, place, within, rd, up, plus}
-use Rattle.pattern.specs.Reach.{reach, past}
+use Rattle.pattern.specs.Reach.{reach, behind, past}
 use Rattle.pattern.specs.Model
 
 -- column 0 has rows 2, 1, 1; column 1 has row 0; column 2 has rows 2, 0
@@ -26,7 +26,7 @@ lists : List ℤ
 lists = replicate 6 (pos 8)
 
 unfoldable opened : Unit {0}
-unfolding ptr rows scratch lists entries times leading reach past at wr place within rd up plus Model.tidied Model.transposed Model.visitedAll Model.visitedNext Model.visitedColumn Model.visited Model.rowed Model.closedRows Model.placedRows Model.placedRow Model.clearedAll Model.cleared Model.built Model.builtFree Model.counted Model.placed Model.placedLists Model.placedList Model.scanned Model.metRests Model.metRest Model.metColumns Model.metColumn Model.metPart Model.met Model.passed Model.marked Model.stopOf Model.nextOf Model.pairedPart Model.pairedAt Model.paired Model.added Model.emptiedAll Model.emptied
+unfolding ptr rows scratch lists entries times leading reach behind past at wr place within rd up plus Model.tidied Model.transposed Model.visitedAll Model.visitedNext Model.visitedColumn Model.visited Model.rowed Model.closedRows Model.placedRows Model.placedRow Model.clearedAll Model.cleared Model.built Model.builtFree Model.counted Model.placed Model.placedLists Model.placedList Model.scanned Model.metRests Model.metRest Model.metColumns Model.metColumn Model.metPart Model.metAt Model.met Model.passed Model.marked Model.stopOf Model.nextOf Model.pairedPart Model.pairedAt Model.paired Model.added Model.emptiedAll Model.emptied
 opened = tt
 
 -- the columns of the transpose: 1 2, 0, 0 2

@@ -1,22 +1,22 @@
--- Where the scan of a column stops, step by step for its loop; and what it has passed: the rows above k, and those from it on.
+-- Where the scan of a column stops, step by step for its loops; and what it has passed: the rows above k, and those from it on.
 -- Assumes nothing.
 use Prim.Native.Nat.{ℕ, zero, suc, _+_, _-_, _≤_, _<_}
 use native.Mathlib.Omega.{arith}
 use mathlib.Core.Path.{_≡_, refl, sym, ap, _∙_}
-use mathlib.Core.Logic.{_≢_, _⊎_, inl, inr}
+use mathlib.Core.Logic.{_⊎_, inl, inr}
 use mathlib.Core.Bool.{Bool, true, false}
 use mathlib.Core.List.{List, _∷_}
 use lib.Dec.{ltb, eqb}
-use lib.IntN.{ℤ}
 use lib.ListN.{length}
-use borrow.Author.Tests.{lt-ltb, le-ltb, eq-eqb, ne-eqb}
+use borrow.Author.Tests.{lt-ltb, le-ltb}
 use Rattle.plain.specs.Lists.{leading, trailing}
-use Rattle.plain.specs.Turns.{entries}
+use Rattle.plain.specs.Turns.{entries, times}
+use Rattle.plain.proofs.Turns.{times-keeps}
 use Rattle.definition.specs.Neighbours.{skip, above, below}
 use Rattle.cells.specs.View.{rd}
 use Rattle.cells.proofs.Slices.{split}
-use Rattle.pattern.specs.Reach.{reach, past}
-use Rattle.pattern.specs.Model.{nextOf}
+use Rattle.pattern.specs.Reach.{reach, behind, past}
+use Rattle.pattern.specs.Model.{Heap}
 
 module _ (F : ℕ → ℕ) (k p to : ℕ) where
   pub reach-is-end : to ≤ p → reach F k p to ≡ p
@@ -38,34 +38,52 @@ module _ (F : ℕ → ℕ) (k p to : ℕ) where
       let e : to - p ≡ suc (to - suc p) = omega arith in
       rw (e, lt-ltb (F p) k l) (omega arith)
 
--- ---- for the loop
+-- ---- for the loops that do something at each place before they stop
 
-pub reach-first : (F : ℕ → ℕ) (k p to : ℕ) → reach F k p to ≡ reach F k p to
-reach-first F k p to = refl
+-- from h₀, the places from `from` on, before p, are done, and the scan stops at p or behind it
+pub record Until (n k from to : ℕ) (f : ℕ → Heap → Heap) (h₀ h : Heap) (p : ℕ) : Type 0 where
+  pub begun : from ≤ p
+  pub same : h ≡ times (p - from) (λ t. f (from + t)) h₀
+  pub rest : reach (rd n 16 (h₀ .mem)) k p to ≡ reach (rd n 16 (h₀ .mem)) k from to
 
-module _ (n k p q to i : ℕ) (s : List ℤ) (inv : reach (rd n 16 s) k p to ≡ reach (rd n 16 s) k q to) where
-  pub reach-more : p < to → i ≡ rd n 16 s p → i < k → reach (rd n 16 s) k (p + 1) to ≡ reach (rd n 16 s) k q to
-  reach-more h e l =
-      let x : p + 1 ≡ suc p = omega arith in
-      rw x (reach-is-more (rd n 16 s) k p to h (rw (← e) l) ∙ inv)
+module _ (n k from to : ℕ) (f : ℕ → Heap → Heap) (keeps : (p : ℕ) (h : Heap) (q : ℕ) → rd n 16 (f p h .mem) q ≡ rd n 16 (h .mem) q) (h₀ : Heap) where
+  pub until-none : Until n k from to f h₀ h₀ from
+  unfolding times
+  until-none = let e : from - from ≡ 0 = omega arith in record { begun = omega arith; same = rw e; rest = refl }
 
-  pub reach-stop : i ≡ rd n 16 s p → k ≤ i → p ≡ reach (rd n 16 s) k q to
-  reach-stop e l = sym (reach-is-stop (rd n 16 s) k p to (rw (← e) l)) ∙ inv
+  module _ (h : Heap) (p : ℕ) (u : Until n k from to f h₀ h p) where
+    row-same : (q : ℕ) → rd n 16 (h .mem) q ≡ rd n 16 (h₀ .mem) q
+    row-same q =
+        ap (λ (x : Heap). rd n 16 (x .mem) q) (u .same)
+        ∙ times-keeps (λ t (x : Heap). rd n 16 (x .mem) q ≡ rd n 16 (h₀ .mem) q) (λ t. f (from + t)) (p - from) (λ t x b e. keeps (from + t) x q ∙ e) (p - from) h₀ (omega arith) refl
 
-  pub reach-end : to ≤ p → p ≡ reach (rd n 16 s) k q to
-  reach-end h = sym (reach-is-end (rd n 16 s) k p to h) ∙ inv
+    pub until-more : (i : ℕ) (x : Heap) → p < to → i ≡ rd n 16 (h .mem) p → i < k → x ≡ f p h → Until n k from to f h₀ x (p + 1)
+    unfolding times
+    until-more i x l e b g =
+        let c : p + 1 - from ≡ suc (p - from) = omega (arith, u .begun) in
+        let d : from + (p - from) ≡ p = omega (arith, u .begun) in
+        let r : p + 1 ≡ suc p = omega arith in
+        record {
+          begun = omega (arith, u .begun);
+          same = rw (c, d) (g ∙ ap (f p) (u .same));
+          rest = rw r (reach-is-more (rd n 16 (h₀ .mem)) k p to l (omega (arith, e, row-same p)) ∙ u .rest);
+        }
 
-pub next-in : (n j k p to i : ℕ) (s : List ℤ) → to ≡ rd n 15 s (j + 1) → i ≡ rd n 16 s p → p < to → i ≡ k → p + 1 ≡ nextOf n s j k p
-unfolding nextOf past
-next-in n j k p to i s ht hi l e = rw (← ht, ← hi, lt-ltb p to l, eq-eqb i k e)
+    module _ (i : ℕ) (l : p < to) (e : i ≡ rd n 16 (h .mem) p) (b : k ≤ i) where
+      stop-here : p ≡ reach (rd n 16 (h₀ .mem)) k from to
+      stop-here = sym (reach-is-stop (rd n 16 (h₀ .mem)) k p to (omega (arith, e, row-same p))) ∙ u .rest
 
-pub next-out : (n j k p to : ℕ) (s : List ℤ) → to ≡ rd n 15 s (j + 1) → to ≤ p → p ≡ nextOf n s j k p
-unfolding nextOf past
-next-out n j k p to s ht l = rw (← ht, le-ltb p to l)
+      pub until-stop : (r : ℕ) → r ≡ behind i k p
+          → (h ≡ times (reach (rd n 16 (h₀ .mem)) k from to - from) (λ t. f (from + t)) h₀) × (r ≡ past (rd n 16 (h₀ .mem)) k (reach (rd n 16 (h₀ .mem)) k from to) to)
+      unfolding past
+      until-stop r g = rw (← stop-here, lt-ltb p to l) (u .same, g ∙ ap (λ (y : ℕ). behind y k p) (e ∙ row-same p))
 
-pub next-not : (n j k p to i : ℕ) (s : List ℤ) → to ≡ rd n 15 s (j + 1) → i ≡ rd n 16 s p → p < to → i ≢ k → p ≡ nextOf n s j k p
-unfolding nextOf past
-next-not n j k p to i s ht hi l e = rw (← ht, ← hi, lt-ltb p to l, ne-eqb i k e)
+    pub until-end : to ≤ p
+        → (h ≡ times (reach (rd n 16 (h₀ .mem)) k from to - from) (λ t. f (from + t)) h₀) × (p ≡ past (rd n 16 (h₀ .mem)) k (reach (rd n 16 (h₀ .mem)) k from to) to)
+    unfolding past
+    until-end l =
+        let z : p ≡ reach (rd n 16 (h₀ .mem)) k from to = sym (reach-is-end (rd n 16 (h₀ .mem)) k p to l) ∙ u .rest in
+        rw (← z, le-ltb p to l) (u .same, refl)
 
 -- ---- what is passed: the rows above k, and what is left
 
@@ -79,13 +97,13 @@ pub record Parted (F : ℕ → ℕ) (k p to r : ℕ) (xs : List ℕ) : Type 0 wh
   pub down : entries F (past F k r to) (to - past F k r to) ≡ below k xs
 
 parted-none : (F : ℕ → ℕ) (k p to : ℕ) → to - p ≡ 0 → Parted F k p to p (entries F p 0)
-unfolding past above below leading trailing skip entries
+unfolding past behind above below leading trailing skip entries
 parted-none F k p to e =
     let a : p - p ≡ 0 = omega arith in
     record { up = rw a; down = rw (le-ltb p to (omega arith), e) }
 
 parted-stop : (F : ℕ → ℕ) (k p to c : ℕ) → to - p ≡ suc c → k ≤ F p → (b : Bool) → eqb (F p) k ≡ b → Parted F k p to p (entries F p (suc c))
-unfolding past above below leading trailing skip entries
+unfolding past behind above below leading trailing skip entries
 parted-stop F k p to c e l true q =
     let a : p - p ≡ 0 = omega arith in
     let d : p + 1 ≡ suc p = omega arith in

@@ -10,8 +10,8 @@ use borrow.Author.Tests.{eq-eqb, ne-eqb}
 use Rattle.plain.specs.Turns.{times, Turned}
 use Rattle.plain.proofs.Turns.{finish}
 use Rattle.cells.specs.View.{at, wr, rd, up, plus}
-use Rattle.pattern.specs.Reach.{reach}
-use Rattle.pattern.specs.Model.{copiedPointer, copiedPointers, copiedRow, copiedRows, copied, cleared, clearedAll, rowed, visited, visitedColumn, visitedNext, visitedAll, Spot, spot, placedRow, placedRows, closedRows, transposed, tidied, Heap, heap, added, paired, pairedAt, pairedPart, stopOf, nextOf, marked, passed, met, metPart, metColumn, metColumns, metRest, metRests, scanned, emptied, emptiedAll, placedList, placedLists, counted, placed, built, builtFree}
+use Rattle.pattern.specs.Reach.{reach, behind, past}
+use Rattle.pattern.specs.Model.{copiedPointer, copiedPointers, copiedRow, copiedRows, copied, cleared, clearedAll, rowed, visited, visitedColumn, visitedNext, visitedAll, Spot, spot, placedRow, placedRows, closedRows, transposed, tidied, Heap, heap, added, paired, pairedAt, pairedPart, stopOf, nextOf, marked, passed, met, metAt, metPart, metColumn, metColumns, metRest, metRests, scanned, emptied, emptiedAll, placedList, placedLists, counted, placed, built, builtFree}
 
 -- ---- copying
 
@@ -68,12 +68,6 @@ pub tidy-copy : (n : ℕ) (ptr rows s r : List ℤ) (b : Bool) → r ≡ copied 
 unfolding tidied
 tidy-copy n ptr rows s r b hr hb = rw hb hr
 
--- ---- the scan of a column
-
-pub stop-step : (n j k p q r : ℕ) (s : List ℤ) → q ≡ rd n 15 s (j + 1) → r ≡ reach (rd n 16 s) k p q → r ≡ stopOf n s j k p
-unfolding stopOf
-stop-step n j k p q r s hq hr = rw (hr, hq)
-
 -- ---- pairs
 
 pub add-step : (n i x p q : ℕ) (l m s t : List ℤ) → p ≡ rd n 12 s i → m ≡ wr l p x → q ≡ plus p 1 → t ≡ up n 12 s i q → heap m t ≡ added n i x (heap l s)
@@ -92,16 +86,30 @@ pair-at-step n i j p l m s u hi h = h ∙ ap (λ (x : ℕ). paired n x j (heap l
 pub finish-part : {A : Type 0} (f : ℕ → A → A) (m : A) (k : ℕ) (x : A) → Turned f m k x → (c p q : ℕ) → c ≡ q - p → k ≤ c → c ≤ k → x ≡ times (q - p) f m
 finish-part f m k x h c p q e a b = finish f m k x h (q - p) (rw (← e) a) (rw (← e) b)
 
-pub pass-step : (n j k p q e : ℕ) (l m s t u : List ℤ) → p ≡ rd n 13 s j → q ≡ stopOf n s j k p → heap m t ≡ pairedPart n j p q (heap l s) → e ≡ nextOf n t j k q → u ≡ up n 13 t j e → heap m u ≡ passed n j k (heap l s)
-unfolding passed marked
+pub behind-here : (i k p : ℕ) → i ≡ k → p + 1 ≡ behind i k p
+unfolding behind
+behind-here i k p e = rw (eq-eqb i k e)
+
+pub behind-not : (i k p : ℕ) → i ≢ k → p ≡ behind i k p
+unfolding behind
+behind-not i k p d = rw (ne-eqb i k d)
+
+pub pass-step : (n j k p q e : ℕ) (l m s t u : List ℤ) → p ≡ rd n 13 s j → q ≡ rd n 15 s (j + 1) → heap m t ≡ pairedPart n j p (reach (rd n 16 s) k p q) (heap l s)
+    → e ≡ past (rd n 16 s) k (reach (rd n 16 s) k p q) q → u ≡ up n 13 t j e → heap m u ≡ passed n j k (heap l s)
+unfolding passed marked stopOf nextOf
 pass-step n j k p q e l m s t u hp hq hm he hu = rw (← hp, ← hq, ← hm, hu, he)
 
-pub meet-step : (n j k p : ℕ) (l m o s t u : List ℤ) → j ≡ rd n 16 s p → heap m t ≡ paired n j k (heap l s) → heap o u ≡ passed n j k (heap m t) → heap o u ≡ met n k p (heap l s)
+pub meet-step : (n j k : ℕ) (l m o s t u : List ℤ) → heap m t ≡ paired n j k (heap l s) → heap o u ≡ passed n j k (heap m t) → heap o u ≡ met n k j (heap l s)
 unfolding met
-meet-step n j k p l m o s t u hj hm ho = rw (← hj, ← hm) ho
+meet-step n j k l m o s t u hm ho = rw (← hm) ho
 
-pub meet-column-step : (n k p q e : ℕ) (l m s t u : List ℤ) → p ≡ rd n 15 s k → q ≡ stopOf n s k k p → heap m t ≡ metPart n k p q (heap l s) → e ≡ nextOf n t k k q → u ≡ up n 13 t k e → heap m u ≡ metColumn n k (heap l s)
-unfolding metColumn marked
+pub meet-at-step : (n j k p : ℕ) (l m s t : List ℤ) → j ≡ rd n 16 s p → heap m t ≡ met n k j (heap l s) → heap m t ≡ metAt n k p (heap l s)
+unfolding metAt
+meet-at-step n j k p l m s t hj hm = rw (← hj) hm
+
+pub meet-column-step : (n k p q e : ℕ) (l m s t u : List ℤ) → p ≡ rd n 15 s k → q ≡ rd n 15 s (k + 1) → heap m t ≡ metPart n k p (reach (rd n 16 s) k p q) (heap l s)
+    → e ≡ past (rd n 16 s) k (reach (rd n 16 s) k p q) q → u ≡ up n 13 t k e → heap m u ≡ metColumn n k (heap l s)
+unfolding metColumn marked stopOf nextOf
 meet-column-step n k p q e l m s t u hp hq hm he hu = rw (← hp, ← hq, ← hm, hu, he)
 
 pub meet-rest-step : (n j p q : ℕ) (l m s t : List ℤ) → p ≡ rd n 13 s j → q ≡ rd n 15 s (j + 1) → heap m t ≡ pairedPart n j p q (heap l s) → heap m t ≡ metRest n j (heap l s)

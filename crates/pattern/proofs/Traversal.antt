@@ -17,18 +17,18 @@ use Rattle.plain.proofs.Entries.{entries-snoc}
 use Rattle.plain.proofs.Positions.{member-entries, getD-same, set-has}
 use Rattle.plain.proofs.Folds.{flatMap-append, foldl-snoc}
 use Rattle.plain.proofs.Sums.{countUp-snoc}
-use Rattle.plain.proofs.Turns.{times-simulates, times-upTo}
+use Rattle.plain.proofs.Turns.{times-keeps, times-simulates, times-upTo}
 use Rattle.definition.specs.Neighbours.{Pair, Scan, pair, above, below, meet, meetColumn, scanned, leftOver, allPairs}
 use Rattle.facts.proofs.Scanned.{above-was}
 use Rattle.facts.proofs.Meeting.{below-was}
 use Rattle.cells.specs.View.{rd, up, Room}
 use Rattle.cells.proofs.Slices.{same?}
 use Rattle.cells.proofs.Fields.{room-up}
-use Rattle.cells.proofs.Laws.{mem, room-yes}
+use Rattle.cells.proofs.Laws.{mem, rd-up-field, room-yes}
 use Rattle.pattern.specs.Reach.{reach, past}
 use Rattle.pattern.specs.Columned.{Stands}
 use Rattle.pattern.specs.Model as M
-use Rattle.pattern.specs.Model.{Heap, heap, added, paired, pairedAt, pairedPart, stopOf, nextOf, marked, passed, met, metPart, metColumn, metColumns, metRest, metRests}
+use Rattle.pattern.specs.Model.{Heap, heap, added, paired, pairedAt, pairedPart, stopOf, nextOf, marked, passed, met, metAt, metPart, metColumn, metColumns, metRest, metRests}
 use Rattle.pattern.proofs.Reaching.{parted}
 
 -- ---- what a pair leaves as it was
@@ -43,6 +43,22 @@ module _ (n i j : ℕ) (h : Heap) where
   pub paired-room : Room n (h .mem) → Room n (paired n i j h .mem)
   unfolding paired added
   paired-room r = room-up n 12 _ _ _ (room-up n 12 _ _ _ r)
+
+-- the rows of the pattern are read, and not written
+pub paired-at-rows : (n j p : ℕ) (h : Heap) (q : ℕ) → rd n 16 (pairedAt n j p h .mem) q ≡ rd n 16 (h .mem) q
+unfolding pairedAt
+paired-at-rows n j p h q = paired-field n (rd n 16 (h .mem) p) j h 16 (inr (inr refl)) q
+
+pub met-at-rows : (n k p : ℕ) (h : Heap) (q : ℕ) → rd n 16 (metAt n k p h .mem) q ≡ rd n 16 (h .mem) q
+unfolding metAt met passed marked pairedPart
+met-at-rows n k p h q =
+    let j = rd n 16 (h .mem) p in
+    let x = paired n j k h in
+    let from = rd n 13 (x .mem) j in
+    let c = stopOf n (x .mem) j k from - from in
+    rd-up-field n 13 16 (times c (λ t. pairedAt n j (from + t)) x .mem) j (nextOf n (x .mem) j k from) q refl
+    ∙ times-keeps (λ t (y : Heap). rd n 16 (y .mem) q ≡ rd n 16 (x .mem) q) (λ t. pairedAt n j (from + t)) c (λ t y b e. paired-at-rows n j (from + t) y q ∙ e) c x (omega arith) refl
+    ∙ paired-field n j k h 16 (inr (inr refl)) q
 
 snoc-map : (f : ℕ → Pair) (ps : List Pair) (xs : List ℕ) (x : ℕ) → ps ++ map f xs ++ (f x ∷ []) ≡ ps ++ map f (xs ++ (x ∷ []))
 snoc-map f ps xs x = append-assoc ps (map f xs) (f x ∷ []) ∙ ap (λ (l : List Pair). ps ++ l) (sym (map-append f xs (x ∷ [])))
@@ -104,12 +120,6 @@ module _ (n : ℕ) (E F : ℕ → ℕ) (cols : List (List ℕ)) (stands : Stands
   abbrev left : Scan → ℕ → List ℕ → Scan
   left m j ys = record { met = m .met; waiting = set (m .waiting) j ys }
 
-  past-is : (h : Heap) (j k r : ℕ) → ((q : ℕ) → rd n 15 (h .mem) q ≡ E q) → ((q : ℕ) → rd n 16 (h .mem) q ≡ F q) → nextOf n (h .mem) j k r ≡ past F k r (E (suc j))
-  unfolding nextOf past
-  past-is h j k r c w =
-      let e : j + 1 ≡ suc j = omega arith in
-      rw (e, c (suc j), w r)
-
   reach-is : (h : Heap) (j k p : ℕ) → ((q : ℕ) → rd n 15 (h .mem) q ≡ E q) → ((q : ℕ) → rd n 16 (h .mem) q ≡ F q) → stopOf n (h .mem) j k p ≡ reach F k p (E (suc j))
   unfolding stopOf
   reach-is h j k p c w =
@@ -117,14 +127,19 @@ module _ (n : ℕ) (E F : ℕ → ℕ) (cols : List (List ℕ)) (stands : Stands
       let f : rd n 16 (h .mem) ≡ F = fun-ext w in
       rw (e, c (suc j), f)
 
-  module _ (top next : ℕ) (m : Scan) (x : Heap) (j k r : ℕ) (ys : List ℕ) (hj : j < n) (s : Scanning top m x)
-      (low : (v : ℕ) → v < next → v ≢ j → v < top) (rest : entries F (past F k r (E (suc j))) (E (suc j) - past F k r (E (suc j))) ≡ ys)
-      (ins : (i : ℕ) → member i ys ≡ true → i < n) where
-    abbrev v′ : ℕ
-    v′ = nextOf n (x .mem) j k r
+  next-is : (h : Heap) (j k p : ℕ) → ((q : ℕ) → rd n 15 (h .mem) q ≡ E q) → ((q : ℕ) → rd n 16 (h .mem) q ≡ F q)
+      → nextOf n (h .mem) j k p ≡ past F k (reach F k p (E (suc j))) (E (suc j))
+  unfolding nextOf
+  next-is h j k p c w =
+      let e : j + 1 ≡ suc j = omega arith in
+      let f : rd n 16 (h .mem) ≡ F = fun-ext w in
+      rw (reach-is h j k p c w, e, c (suc j), f)
 
-    here : rd n 13 (up n 13 (x .mem) j v′) j ≡ past F k r (E (suc j))
-    here = simp (mem, room-yes n (x .mem) (s .room), lt-ltb j n hj) (past-is x j k r (s .col) (s .row))
+  module _ (top next : ℕ) (m : Scan) (x : Heap) (j v′ : ℕ) (ys : List ℕ) (hj : j < n) (s : Scanning top m x)
+      (low : (v : ℕ) → v < next → v ≢ j → v < top) (rest : entries F v′ (E (suc j) - v′) ≡ ys)
+      (ins : (i : ℕ) → member i ys ≡ true → i < n) where
+    here : rd n 13 (up n 13 (x .mem) j v′) j ≡ v′
+    here = simp (mem, room-yes n (x .mem) (s .room), lt-ltb j n hj)
 
     waits-at : (v : ℕ) → v < next → (v ≡ j) ⊎ (v ≢ j)
         → entries F (rd n 13 (up n 13 (x .mem) j v′) v) (E (suc v) - rd n 13 (up n 13 (x .mem) j v′) v) ≡ getD (set (m .waiting) j ys) v []
@@ -133,7 +148,7 @@ module _ (n : ℕ) (E F : ℕ → ℕ) (cols : List (List ℕ)) (stands : Stands
         let a : rd n 13 (up n 13 (x .mem) j v′) v ≡ rd n 13 (x .mem) v = simp mem in
         rw (a, getD-set-other (m .waiting) j v ys [] e) (s .waits v (low v l e))
 
-    marked-scan : Scanning next (left m j ys) (marked n j k r x)
+    marked-scan : Scanning next (left m j ys) (marked n j v′ x)
     unfolding marked
     marked-scan = record {
       out = marks (m .met) x j v′ (s .out);
@@ -155,12 +170,12 @@ module _ (n : ℕ) (E F : ℕ → ℕ) (cols : List (List ℕ)) (stands : Stands
       let ws = getD (m .waiting) j [] in
       let cut = parted F k p (E (suc j)) ws (s .waits j l) in
       let x = pairs-scan k m h j p (reach F k p (E (suc j))) (above k ws) (omega arith) s (cut .up) (λ i a. s .inside j i (above-was k ws i a .0)) in
-      rw (reach-is h j k p (s .col) (s .row))
-      (marked-scan k k (more m (map (λ i. pair i j) (above k ws))) (pairedPart n j p (reach F k p (E (suc j))) h) j k (reach F k p (E (suc j))) (below k ws) (omega arith) x
+      rw (reach-is h j k p (s .col) (s .row), next-is h j k p (s .col) (s .row))
+      (marked-scan k k (more m (map (λ i. pair i j) (above k ws))) (pairedPart n j p (reach F k p (E (suc j))) h) j (past F k (reach F k p (E (suc j))) (E (suc j))) (below k ws) (omega arith) x
       (λ v a b. a) (cut .down) (λ i a. s .inside j i (below-was k ws i a)))
 
-  met-scan : (m : Scan) (h : Heap) (j k p : ℕ) → j ≡ F p → j < k → k < n → Scanning k m h → Scanning k (meet k m j) (met n k p h)
-  unfolding met meet
+  met-scan : (m : Scan) (h : Heap) (j k p : ℕ) → j ≡ F p → j < k → k < n → Scanning k m h → Scanning k (meet k m j) (metAt n k p h)
+  unfolding metAt met meet
   met-scan m h j k p e l hk s =
       let a = pair-scan k m h j k (omega arith) hk s in
       let b = passed-scan (more m (pair j k ∷ [])) (paired n j k h) j k l hk a in
@@ -169,12 +184,12 @@ module _ (n : ℕ) (E F : ℕ → ℕ) (cols : List (List ℕ)) (stands : Stands
   -- ---- a column
 
   part-by : (m : Scan) (h : Heap) (k p c : ℕ) → k < n → Scanning k m h → ((t : ℕ) → t < c → F (p + t) < k) → (d : ℕ) → d ≤ c
-      → Scanning k (foldl (meet k) m (entries F p d)) (times d (λ t. met n k (p + t)) h)
+      → Scanning k (foldl (meet k) m (entries F p d)) (times d (λ t. metAt n k (p + t)) h)
   unfolding times entries
   part-by m h k p c hk s w zero l = s
-  part-by m h k p c hk s w (suc d) l = go (times d (λ t. met n k (p + t)) h) (part-by m h k p c hk s w d (omega arith))
+  part-by m h k p c hk s w (suc d) l = go (times d (λ t. metAt n k (p + t)) h) (part-by m h k p c hk s w d (omega arith))
     where
-      go : (x : Heap) → Scanning k (foldl (meet k) m (entries F p d)) x → Scanning k (foldl (meet k) m (entries F p (suc d))) (met n k (p + d) x)
+      go : (x : Heap) → Scanning k (foldl (meet k) m (entries F p d)) x → Scanning k (foldl (meet k) m (entries F p (suc d))) (metAt n k (p + d) x)
       go x r =
           rw (entries-snoc F p d, foldl-snoc (meet k) m (entries F p d) (F (p + d)))
           (met-scan (foldl (meet k) m (entries F p d)) x (F (p + d)) k (p + d) refl (w d (omega arith)) hk r)
@@ -193,8 +208,8 @@ module _ (n : ℕ) (E F : ℕ → ℕ) (cols : List (List ℕ)) (stands : Stands
       let r = reach F k (E k) (E (suc k)) in
       let cut = parted F k (E k) (E (suc k)) c (stands .column k hk) in
       let x = part-scan m h k (E k) r (above k c) hk s (cut .up) (λ j a. above-was k c j a .1) in
-      rw (s .col k, reach-is h k k (E k) (s .col) (s .row))
-      (marked-scan k (suc k) (foldl (meet k) m (above k c)) (metPart n k (E k) r h) k k r (below k c) hk x
+      rw (s .col k, reach-is h k k (E k) (s .col) (s .row), next-is h k k (E k) (s .col) (s .row))
+      (marked-scan k (suc k) (foldl (meet k) m (above k c)) (metPart n k (E k) r h) k (past F k r (E (suc k))) (below k c) hk x
       (λ v a b. omega (arith, a, b)) (cut .down) (λ i a. within k i (below-was k c i a)))
 
   -- ---- the columns in order

@@ -104,34 +104,37 @@ pairedAt n j p h = paired n (rd n ENTRY (h .mem) p) j h
 unfoldable pub pairedPart : ℕ → ℕ → ℕ → ℕ → Heap → Heap
 pairedPart n j p q h = times (q - p) (λ t. pairedAt n j (p + t)) h
 
--- where the scan of column j stops before row k, begun at p; and one further where that is k
+-- where the scan of column j stops before row k, begun at p; and where it goes on, past row k
 unfoldable pub stopOf : ℕ → List ℤ → ℕ → ℕ → ℕ → ℕ
 stopOf n s j k p = reach (rd n ENTRY s) k p (rd n COLUMN s (j + 1))
 
 unfoldable pub nextOf : ℕ → List ℤ → ℕ → ℕ → ℕ → ℕ
-nextOf n s j k p = past (rd n ENTRY s) k p (rd n COLUMN s (j + 1))
+nextOf n s j k p = past (rd n ENTRY s) k (stopOf n s j k p) (rd n COLUMN s (j + 1))
 
--- the scan position of column j goes past k, from place p
-unfoldable pub marked : ℕ → ℕ → ℕ → ℕ → Heap → Heap
-marked n j k p h = heap (h .lists) (up n TP (h .mem) j (nextOf n (h .mem) j k p))
+-- the scan position of column j
+unfoldable pub marked : ℕ → ℕ → ℕ → Heap → Heap
+marked n j p h = heap (h .lists) (up n TP (h .mem) j p)
 
 -- what waits in column j before row k is paired
 unfoldable pub passed : ℕ → ℕ → ℕ → Heap → Heap
 passed n j k h =
-    marked n j k (stopOf n (h .mem) j k (rd n TP (h .mem) j))
-    (pairedPart n j (rd n TP (h .mem) j) (stopOf n (h .mem) j k (rd n TP (h .mem) j)) h)
+    let p = rd n TP (h .mem) j in
+    marked n j (nextOf n (h .mem) j k p) (pairedPart n j p (stopOf n (h .mem) j k p) h)
 
--- the entry at place p of column k, which is above the diagonal
+-- row j of column k, above the diagonal; and those in its places from p on, before q
 unfoldable pub met : ℕ → ℕ → ℕ → Heap → Heap
-met n k p h = passed n (rd n ENTRY (h .mem) p) k (paired n (rd n ENTRY (h .mem) p) k h)
+met n k j h = passed n j k (paired n j k h)
+
+unfoldable pub metAt : ℕ → ℕ → ℕ → Heap → Heap
+metAt n k p h = met n k (rd n ENTRY (h .mem) p) h
 
 unfoldable pub metPart : ℕ → ℕ → ℕ → ℕ → Heap → Heap
-metPart n k p q h = times (q - p) (λ t. met n k (p + t)) h
+metPart n k p q h = times (q - p) (λ t. metAt n k (p + t)) h
 
 unfoldable pub metColumn : ℕ → ℕ → Heap → Heap
 metColumn n k h =
-    marked n k k (stopOf n (h .mem) k k (rd n COLUMN (h .mem) k))
-    (metPart n k (rd n COLUMN (h .mem) k) (stopOf n (h .mem) k k (rd n COLUMN (h .mem) k)) h)
+    let p = rd n COLUMN (h .mem) k in
+    marked n k (nextOf n (h .mem) k k p) (metPart n k p (stopOf n (h .mem) k k p) h)
 
 unfoldable pub metColumns : ℕ → Heap → Heap
 metColumns n h = times n (metColumn n) h

@@ -3,8 +3,8 @@
 ghost use mathlib.Core.Path.{_≡_};
 ghost use Prim.Native.Nat.{_+_, _-_, _<_, _≤_, _^_};
 ghost use Rattle.cells.specs.View.{at, rd, Room};
-ghost use Rattle.pattern.specs.Reach.{reach, past};
-ghost use Rattle.pattern.specs.Model.{copiedPointers, copiedRows, copied, cleared, clearedAll, rowed, visited, visitedColumn, visitedNext, visitedAll, spot, placedRow, placedRows, transposed, tidied, heap, added, paired, pairedAt, pairedPart, stopOf, nextOf, passed, met, metPart, metColumn, metColumns, metRest, metRests, scanned, emptiedAll, placedList, placedLists, built, builtFree};
+ghost use Rattle.pattern.specs.Reach.{reach, behind, past};
+ghost use Rattle.pattern.specs.Model.{copiedPointers, copiedRows, copied, cleared, clearedAll, rowed, visited, visitedColumn, visitedNext, visitedAll, spot, placedRow, placedRows, transposed, tidied, heap, added, paired, pairedAt, pairedPart, passed, met, metPart, metColumn, metColumns, metRest, metRests, scanned, emptiedAll, placedList, placedLists, built, builtFree};
 
 // ---- an orderly pattern is copied as it is
 
@@ -153,49 +153,6 @@ pub fn tidy(ptr: &[i32], rows: &[i32], s: &mut [i64], n: usize, jumbled: bool)
     }
 }
 
-// ---- where the scan of a column stops
-
-// The first place from `from` on, before `to`, whose row is not below `k`.
-pub fn find(s: &[i64], n: usize, from: usize, to: usize, k: usize) -> usize
-    requires { ⌜ Room n (now s) × (from < 2 ^ 63) × (to < 2 ^ 63) ⌝ }
-    ensures { λ r. ⌜ (r ≡ reach (rd n 16 (now (s .entry))) k from to) × (r < 2 ^ 63) ⌝ }
-{
-    let mut p = from;
-    while p < to {
-        let i = cells::entry(s, n, p);
-        if k <= i {
-            break;
-        }
-        p += 1;
-    }
-    p
-}
-
-// Of column `j`, from `from` on: the first place whose row is not below `k`.
-pub fn stop_of(s: &[i64], n: usize, j: usize, k: usize, from: usize) -> usize
-    requires { ⌜ Room n (now s) × (j < 2 ^ 63) × (from < 2 ^ 63) ⌝ }
-    ensures { λ r. ⌜ (r ≡ stopOf n (now (s .entry)) j k from) × (r < 2 ^ 63) ⌝ }
-{
-    let to = cells::column(s, n, j + 1);
-    find(s, n, from, to, k)
-}
-
-// One place further where column `j` has row `k` at `p`.
-pub fn next_of(s: &[i64], n: usize, j: usize, k: usize, p: usize) -> usize
-    requires { ⌜ Room n (now s) × (j < 2 ^ 63) × (p < 2 ^ 63) ⌝ }
-    ensures { λ r. ⌜ (r ≡ nextOf n (now (s .entry)) j k p) × (r < 2 ^ 63) ⌝ }
-{
-    let to = cells::column(s, n, j + 1);
-    let i = cells::entry(s, n, p);
-    if to <= p {
-        p
-    } else if i == k {
-        p + 1
-    } else {
-        p
-    }
-}
-
 // ---- the pairs of A+A', in the order of amd_1.rs
 
 // `x` becomes the next neighbour of `i`.
@@ -237,36 +194,81 @@ pub fn pair_part(lists: &mut [i64], s: &mut [i64], n: usize, j: usize, from: usi
     }
 }
 
+// The next place of a column, where row `i` stands at `p`, which is not above row `k`: one further, if it is row `k` itself.
+fn pass_row(i: usize, k: usize, p: usize) -> usize
+    requires { ⌜ p < 2 ^ 63 ⌝ }
+    ensures { λ r. ⌜ (r ≡ behind i k p) × (r ≤ p + 1) ⌝ }
+{
+    if i == k { p + 1 } else { p }
+}
+
+// The entries of column `j` from `from` on, before `to` and above row `k`. The result is the next place.
+pub fn pair_above(
+    lists: &mut [i64],
+    s: &mut [i64],
+    n: usize,
+    j: usize,
+    k: usize,
+    from: usize,
+    to: usize,
+) -> usize
+    requires { ⌜ Room n (now s) × (j < 2 ^ 63) × (from < 2 ^ 63) × (to < 2 ^ 63) ⌝ }
+    ensures { λ r. ⌜ (heap (now (lists .exit)) (now (s .exit)) ≡ pairedPart n j from (reach (rd n 16 (now (s .entry))) k from to) (heap (now (lists .entry)) (now (s .entry)))) × (r ≡ past (rd n 16 (now (s .entry))) k (reach (rd n 16 (now (s .entry))) k from to) to) × Room n (now (s .exit)) × (r < 2 ^ 63) ⌝ }
+{
+    let mut p = from;
+    while p < to {
+        let i = cells::entry(s, n, p);
+        if k <= i {
+            return pass_row(i, k, p);
+        }
+        add_pair(lists, s, n, i, j);
+        p += 1;
+    }
+    p
+}
+
 // What waits in column `j` before row `k`: it is in no column above the diagonal. Row `k` itself, if it is next, is the pair that led here.
 pub fn pass(lists: &mut [i64], s: &mut [i64], n: usize, j: usize, k: usize)
     requires { ⌜ Room n (now s) × (j < 2 ^ 63) ⌝ }
     ensures { λ _. ⌜ (heap (now (lists .exit)) (now (s .exit)) ≡ passed n j k (heap (now (lists .entry)) (now (s .entry)))) × Room n (now (s .exit)) ⌝ }
 {
     let from = cells::tab(s, n, cells::TP, j);
-    let stop = stop_of(s, n, j, k, from);
-    pair_part(lists, s, n, j, from, stop);
-    let next = next_of(s, n, j, k, stop);
+    let to = cells::column(s, n, j + 1);
+    let next = pair_above(lists, s, n, j, k, from, to);
     cells::put(s, n, cells::TP, j, next);
 }
 
-// The entry at `p`, which stands in column `k` above the diagonal.
-pub fn meet(lists: &mut [i64], s: &mut [i64], n: usize, k: usize, p: usize)
-    requires { ⌜ Room n (now s) × (k < 2 ^ 63) ⌝ }
-    ensures { λ _. ⌜ (heap (now (lists .exit)) (now (s .exit)) ≡ met n k p (heap (now (lists .entry)) (now (s .entry)))) × Room n (now (s .exit)) ⌝ }
+// Row `j` of column `k`, above the diagonal.
+pub fn meet(lists: &mut [i64], s: &mut [i64], n: usize, k: usize, j: usize)
+    requires { ⌜ Room n (now s) × (k < 2 ^ 63) × (j < 2 ^ 63) ⌝ }
+    ensures { λ _. ⌜ (heap (now (lists .exit)) (now (s .exit)) ≡ met n k j (heap (now (lists .entry)) (now (s .entry)))) × Room n (now (s .exit)) ⌝ }
 {
-    let j = cells::entry(s, n, p);
     add_pair(lists, s, n, j, k);
     pass(lists, s, n, j, k);
 }
 
-pub fn meet_part(lists: &mut [i64], s: &mut [i64], n: usize, k: usize, from: usize, to: usize)
+// The entries of column `k` from `from` on, before `to` and above the diagonal. The result is the next place.
+pub fn meet_above(
+    lists: &mut [i64],
+    s: &mut [i64],
+    n: usize,
+    k: usize,
+    from: usize,
+    to: usize,
+) -> usize
     requires { ⌜ Room n (now s) × (k < 2 ^ 63) × (from < 2 ^ 63) × (to < 2 ^ 63) ⌝ }
-    ensures { λ _. ⌜ (heap (now (lists .exit)) (now (s .exit)) ≡ metPart n k from to (heap (now (lists .entry)) (now (s .entry)))) × Room n (now (s .exit)) ⌝ }
+    ensures { λ r. ⌜ (heap (now (lists .exit)) (now (s .exit)) ≡ metPart n k from (reach (rd n 16 (now (s .entry))) k from to) (heap (now (lists .entry)) (now (s .entry)))) × (r ≡ past (rd n 16 (now (s .entry))) k (reach (rd n 16 (now (s .entry))) k from to) to) × Room n (now (s .exit)) × (r < 2 ^ 63) ⌝ }
 {
-    let count = cells::less(to, from);
-    for t in 0..count {
-        meet(lists, s, n, k, from + t);
+    let mut p = from;
+    while p < to {
+        let j = cells::entry(s, n, p);
+        if k <= j {
+            return pass_row(j, k, p);
+        }
+        meet(lists, s, n, k, j);
+        p += 1;
     }
+    p
 }
 
 // Column `k`: its entries above the diagonal in turn, and what is below waits.
@@ -275,9 +277,8 @@ pub fn meet_column(lists: &mut [i64], s: &mut [i64], n: usize, k: usize)
     ensures { λ _. ⌜ (heap (now (lists .exit)) (now (s .exit)) ≡ metColumn n k (heap (now (lists .entry)) (now (s .entry)))) × Room n (now (s .exit)) ⌝ }
 {
     let from = cells::column(s, n, k);
-    let stop = stop_of(s, n, k, k, from);
-    meet_part(lists, s, n, k, from, stop);
-    let next = next_of(s, n, k, k, stop);
+    let to = cells::column(s, n, k + 1);
+    let next = meet_above(lists, s, n, k, from, to);
     cells::put(s, n, cells::TP, k, next);
 }
 

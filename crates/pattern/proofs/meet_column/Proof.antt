@@ -1,20 +1,25 @@
 -- `pattern::meet_column` meets its contract. Assumes nothing.
-use borrow.Author.Needs.{needs}
 use Rattle.pattern.proofs.Steps.{meet-column-step}
+use borrow.Author.Needs.{needs}
 use Rattle.pattern.proofs.meet_column.Statement.{statement}
 use Rattle.pattern.proofs.meet_column.Tie as tie
+use Rattle.pattern.proofs.meet_column.Reads as reads
+use Rattle.pattern.proofs.meet_column.Lts as lts
+use Rattle.cells.proofs.column.Reads as column-reads
+use Rattle.cells.proofs.put.Reads as put-reads
+use Rattle.pattern.proofs.meet_above.Reads as meet-above-reads
 
 column-requires : tie.Need-column-requires
 column-requires c κs = search needs
 
-stop-of-requires : tie.Need-stop-of-requires
-stop-of-requires c κs = search needs
+add-column : tie.Need-add-column
+add-column c = search needs
 
-meet-part-requires : tie.Need-meet-part-requires
-meet-part-requires c κs = search needs
+column-requires-2 : tie.Need-column-requires-2
+column-requires-2 c κs = search needs
 
-next-of-requires : tie.Need-next-of-requires
-next-of-requires c κs = search needs
+meet-above-requires : tie.Need-meet-above-requires
+meet-above-requires c κs = search needs
 
 put-requires : tie.Need-put-requires
 put-requires c κs = search needs
@@ -33,9 +38,9 @@ meet-column-spec =
     tie.close
     (tie.spec
     column-requires
-    stop-of-requires
-    meet-part-requires
-    next-of-requires
+    add-column
+    column-requires-2
+    meet-above-requires
     put-requires
     same-length
     same-length-2

@@ -1,20 +1,26 @@
 -- `pattern::pass` meets its contract. Assumes nothing.
-use borrow.Author.Needs.{needs}
 use Rattle.pattern.proofs.Steps.{pass-step}
+use borrow.Author.Needs.{needs}
 use Rattle.pattern.proofs.pass.Statement.{statement}
 use Rattle.pattern.proofs.pass.Tie as tie
+use Rattle.pattern.proofs.pass.Reads as reads
+use Rattle.pattern.proofs.pass.Lts as lts
+use Rattle.cells.proofs.column.Reads as column-reads
+use Rattle.cells.proofs.put.Reads as put-reads
+use Rattle.cells.proofs.tab.Reads as tab-reads
+use Rattle.pattern.proofs.pair_above.Reads as pair-above-reads
 
 tab-requires : tie.Need-tab-requires
 tab-requires c κs = search needs
 
-stop-of-requires : tie.Need-stop-of-requires
-stop-of-requires c κs = search needs
+add-column : tie.Need-add-column
+add-column c = search needs
 
-pair-part-requires : tie.Need-pair-part-requires
-pair-part-requires c κs = search needs
+column-requires : tie.Need-column-requires
+column-requires c κs = search needs
 
-next-of-requires : tie.Need-next-of-requires
-next-of-requires c κs = search needs
+pair-above-requires : tie.Need-pair-above-requires
+pair-above-requires c κs = search needs
 
 put-requires : tie.Need-put-requires
 put-requires c κs = search needs
@@ -33,9 +39,9 @@ pass-spec =
     tie.close
     (tie.spec
     tab-requires
-    stop-of-requires
-    pair-part-requires
-    next-of-requires
+    add-column
+    column-requires
+    pair-above-requires
     put-requires
     same-length
     same-length-2
