@@ -44,21 +44,30 @@ module _ (n i j : ℕ) (h : Heap) where
   unfolding paired added
   paired-room r = room-up n 12 _ _ _ (room-up n 12 _ _ _ r)
 
--- the rows of the pattern are read, and not written
+-- ---- the rows of the pattern are read, and not written
+
+paired-rows : (n i j : ℕ) (h : Heap) (q : ℕ) → rd n 16 (paired n i j h .mem) q ≡ rd n 16 (h .mem) q
+paired-rows n i j h q = paired-field n i j h 16 (inr (inr refl)) q
+
 pub paired-at-rows : (n j p : ℕ) (h : Heap) (q : ℕ) → rd n 16 (pairedAt n j p h .mem) q ≡ rd n 16 (h .mem) q
 unfolding pairedAt
-paired-at-rows n j p h q = paired-field n (rd n 16 (h .mem) p) j h 16 (inr (inr refl)) q
+paired-at-rows n j p h q = paired-rows n (rd n 16 (h .mem) p) j h q
+
+passed-rows : (n j k : ℕ) (h : Heap) (q : ℕ) → rd n 16 (passed n j k h .mem) q ≡ rd n 16 (h .mem) q
+unfolding passed marked pairedPart
+passed-rows n j k h q =
+    let p = rd n 13 (h .mem) j in
+    let c = stopOf n (h .mem) j k p - p in
+    rd-up-field n 13 16 (times c (λ t. pairedAt n j (p + t)) h .mem) j (nextOf n (h .mem) j k p) q refl
+    ∙ times-keeps (λ t (x : Heap). rd n 16 (x .mem) q ≡ rd n 16 (h .mem) q) (λ t. pairedAt n j (p + t)) c (λ t x b e. paired-at-rows n j (p + t) x q ∙ e) c h (omega arith) refl
+
+met-rows : (n k j : ℕ) (h : Heap) (q : ℕ) → rd n 16 (met n k j h .mem) q ≡ rd n 16 (h .mem) q
+unfolding met
+met-rows n k j h q = passed-rows n j k (paired n j k h) q ∙ paired-rows n j k h q
 
 pub met-at-rows : (n k p : ℕ) (h : Heap) (q : ℕ) → rd n 16 (metAt n k p h .mem) q ≡ rd n 16 (h .mem) q
-unfolding metAt met passed marked pairedPart
-met-at-rows n k p h q =
-    let j = rd n 16 (h .mem) p in
-    let x = paired n j k h in
-    let from = rd n 13 (x .mem) j in
-    let c = stopOf n (x .mem) j k from - from in
-    rd-up-field n 13 16 (times c (λ t. pairedAt n j (from + t)) x .mem) j (nextOf n (x .mem) j k from) q refl
-    ∙ times-keeps (λ t (y : Heap). rd n 16 (y .mem) q ≡ rd n 16 (x .mem) q) (λ t. pairedAt n j (from + t)) c (λ t y b e. paired-at-rows n j (from + t) y q ∙ e) c x (omega arith) refl
-    ∙ paired-field n j k h 16 (inr (inr refl)) q
+unfolding metAt
+met-at-rows n k p h q = met-rows n k (rd n 16 (h .mem) p) h q
 
 snoc-map : (f : ℕ → Pair) (ps : List Pair) (xs : List ℕ) (x : ℕ) → ps ++ map f xs ++ (f x ∷ []) ≡ ps ++ map f (xs ++ (x ∷ []))
 snoc-map f ps xs x = append-assoc ps (map f xs) (f x ∷ []) ∙ ap (λ (l : List Pair). ps ++ l) (sym (map-append f xs (x ∷ [])))
@@ -86,7 +95,7 @@ module _ (n : ℕ) (E F : ℕ → ℕ) (cols : List (List ℕ)) (stands : Stands
     out = pairs (m .met) h i j hi hj (s .room) (s .out);
     room = paired-room n i j h (s .room);
     col = λ q. paired-field n i j h 15 (inr (inl refl)) q ∙ s .col q;
-    row = λ q. paired-field n i j h 16 (inr (inr refl)) q ∙ s .row q;
+    row = λ q. paired-rows n i j h q ∙ s .row q;
     size = s .size;
     inside = s .inside;
     waits = λ v l. rw (paired-field n i j h 13 (inl refl) v) (s .waits v l);
