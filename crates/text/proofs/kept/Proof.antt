@@ -25,7 +25,7 @@ returns c =
     (rw (back (s .args .x) (s .args .x) refl (s .fits .x .sfits)) (kept-room (s .args .out .now) (s .args .count) (s .args .x) (c .if1 .taken)), tt)
 
 returns-2 : tie.Need-returns-2
-returns-2 c = search (needs, kept-full)
+returns-2 c = (kept-full (c .before .args .out .now) (c .before .args .count) (c .before .args .x) (c .if1 .left), tt)
 
 pub kept-spec : {M : Type 1} → statement M
 kept-spec = tie.close (tie.spec mul-x slice-set-from-x add-t6 same-length returns returns-2)
