@@ -35,8 +35,7 @@ use Rattle.packed.proofs.Inside.{Replaced, gathered-inside}
 use Rattle.packed.proofs.Outside.{Gathered}
 use Rattle.packed.proofs.Spaces.{space-renamed, space-same}
 use Rattle.packed.proofs.Taking.{wants}
-use Rattle.packed.specs.Gather.{Inside, Outside, gatheredInside, gatheredOutside, settled}
-use Rattle.packed.specs.Model.{entered}
+use Rattle.packed.specs.Gather.{Inside, Outside, gatheredInside, gatheredOutside}
 use Rattle.packed.specs.Places.{Owns, Space, places}
 use Rattle.packed.specs.Reading.{entriesOf}
 use Rattle.drawn.specs.Drawn.{listOf}
@@ -171,10 +170,6 @@ module _ (n : ℕ) (l s : List ℤ) (t : State) (inv : Inv n t) (wd : Weighed t)
     gd : Gathered n X l s made base lim p es (agrees .entries) x
     gd = agrees .gathered
 
-    own-parent : parent n (x .mem) p ≡ none
-    unfolding gatheredOutside settled entered
-    own-parent = simp mem
-
     with-collects : Collects n g p l s x
     with-collects =
         let e : entriesOf (agrees .entries) ≡ new = agrees .new in
@@ -189,7 +184,7 @@ module _ (n : ℕ) (l s : List ℤ) (t : State) (inv : Inv n t) (wd : Weighed t)
           w = gd .w;
           queues = rw (← e) (gd .queues);
           fields = gd .fields;
-          own = own-parent;
+          own = gd .own;
           taken = gd .taken;
           others = gd .parents;
         }

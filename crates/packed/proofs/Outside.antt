@@ -6,7 +6,7 @@ use native.Mathlib.Omega.{arith}
 use mathlib.Core.Bool.{Bool, cond, false, true}
 use mathlib.Core.List.{List, [], _++_, flatMap, foldl}
 use mathlib.Core.Logic.{_≢_, _⊎_, inl, inr, ⊎-elim}
-use mathlib.Core.Option.{some}
+use mathlib.Core.Option.{none, some}
 use mathlib.Core.Path.{_∙_, _≡_, ap, refl, subst⁻¹, sym}
 use borrow.Author.Tests.{lt-ltb}
 use lib.Dec.{eqb}
@@ -48,6 +48,7 @@ use Rattle.packed.specs.declared.Tray.{Tray}
 pub record Gathered (n : ℕ) (X : ℕ → List ℕ) (l s : List ℤ) (made base lim me : ℕ) (es : List ℕ) (q : List Read) (m : Outside) : Type 0 where
   pub space : Space n (upd (except X es []) me (entriesOf q)) (m .lists) (m .mem) (suc made) (m .made .base) (m .made .free)
   pub place : rd n PE (m .mem) me ≡ m .made .start
+  pub own : parent n (m .mem) me ≡ none
   -- nobody else stands there, or behind
   pub others : (i c : ℕ) → i ≢ me → Owns (places n (m .mem)) i c → c < m .made .start
   pub wide : m .made .base ≤ m .made .start
@@ -245,6 +246,7 @@ module _ (n : ℕ) (X : ℕ → List ℕ) (l s : List ℤ) (made base lim : ℕ)
             record {
               space = rw (p, ← new-length) (space-renamed n (upd Y me new) _ _ (suc made) (c .ends .base) (c .ends .end + length new) (stands .space) (upd (except X es []) me new) (left-as new));
               place = stands .place;
+              own = stands .own;
               others = stands .others;
               wide = stands .wide;
               count = u;

@@ -5,6 +5,7 @@ use native.Mathlib.Omega.{arith}
 use mathlib.Core.Bool.{false}
 use mathlib.Core.List.{List}
 use mathlib.Core.Logic.{_≢_}
+use mathlib.Core.Option.{none}
 use mathlib.Core.Path.{_∙_, _≡_, ap, refl, subst, sym}
 use borrow.Author.Tests.{lt-ltb}
 use lib.Dec.{eqb}
@@ -42,6 +43,7 @@ pub record Settled (n : ℕ) (Y : ℕ → List ℕ) (l s : List ℤ) (made me st
   pub others : (i q : ℕ) → i ≢ me → Owns (places n s′) i q → q < start
   pub wide : base ≤ start
   pub place : rd n PE s′ me ≡ start
+  pub own : parent n s′ me ≡ none
   pub order : (t : ℕ) → t ≢ made → rd n ORD s′ t ≡ rd n ORD s t
   pub last : rd n ORD s′ made ≡ me
   pub fields : (f i : ℕ) → eqb PE f ≡ false → eqb LEN f ≡ false → eqb ORD f ≡ false → rd n f s′ i ≡ rd n f s i
@@ -68,6 +70,7 @@ settled-there n Y l s made me x c hm ht fresh tab h =
           omega (arith, h .space .lists .under i q (record { from = omega (arith, u, o .from); to = omega (arith, u, v, o .to) }), h .behind);
       wide = omega (arith, h .space .sorted .wide, h .behind);
       place = simp (mem, room-yes n a r, lt-ltb me n hm);
+      own = simp mem;
       order = λ t d. let u : made ≢ t = λ y. d (sym y) in let v : rd n ORD (up n ORD (up n LEN (up n PE a me e) me k) made me) t ≡ rd n ORD a t = simp mem in v ∙ h .fields ORD t refl;
       last = simp (mem, room-yes n a r, lt-ltb made n ht);
       fields = λ f i p q o. rd-up-field n ORD f _ made me i o ∙ rd-up-field n LEN f _ me k i q ∙ rd-up-field n PE f a me e i p ∙ h .fields f i p;

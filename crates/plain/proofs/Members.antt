@@ -8,7 +8,7 @@ use mathlib.Core.Bool.{true, false, false≢true, Bool, _||_, not, _&&_}
 use mathlib.Core.List.{[], List, _∷_, _++_, reverse, reverseAux, flatMap, map}
 use lib.Dec.{eqb}
 use borrow.Author.Tests.{eq-eqb, eqb-true, eqb-false, ne-eqb}
-use Rattle.plain.proofs.Logic.{or-right, either, clash, or-left, or-cases, and-left, and-right, not-back, or-elim}
+use Rattle.plain.proofs.Logic.{and-no, or-right, either, clash, or-left, or-cases, and-left, and-right, not-back, or-elim}
 use Rattle.plain.specs.Lists.{member, keep, consIf, delete, rotate, countUp, upTo, isEmpty, every}
 use Rattle.plain.specs.Members.{In, Within}
 
@@ -91,11 +91,7 @@ append-either x xs ys h =
 
 pub member-keep : (x : ℕ) (p : ℕ → Bool) (xs : List ℕ) → member x (keep p xs) ≡ p x && member x xs
 unfolding keep member
-member-keep x p [] = rw (member-nil x) (sym (at-nil (p x)))
-  where
-    at-nil : (b : Bool) → b && false ≡ false
-    at-nil true = refl
-    at-nil false = refl
+member-keep x p [] = rw (member-nil x) (sym (and-no (p x)))
 member-keep x p (z ∷ zs) = go (p z) refl (member-keep x p zs)
   where
     swap : (a b c : Bool) → b ≡ a && c → (t : Bool) → (t ≡ true → a ≡ true) → t || b ≡ a && (t || c)
@@ -122,11 +118,7 @@ pub kept-both : (x : ℕ) (p : ℕ → Bool) (xs : List ℕ) → In x (keep p xs
 kept-both x p xs h = (kept-passes x p xs h, kept-was x p xs h)
 
 pub not-kept : (x : ℕ) (p : ℕ → Bool) (xs : List ℕ) → member x xs ≡ false → member x (keep p xs) ≡ false
-not-kept x p xs h = rw (member-keep x p xs, h) (at-false (p x))
-  where
-    at-false : (b : Bool) → b && false ≡ false
-    at-false true = refl
-    at-false false = refl
+not-kept x p xs h = rw (member-keep x p xs, h) (and-no (p x))
 
 pub not-kept-at : (x : ℕ) (p : ℕ → Bool) (xs : List ℕ) → p x ≡ false → member x (keep p xs) ≡ false
 not-kept-at x p xs h = rw (member-keep x p xs, h)
