@@ -1,22 +1,21 @@
 -- The laws of rows in the list space: what a cell holds is a row, a row that is stored leaves rows, and a part that is there is there whole.
 -- Assumes nothing.
-use Prim.Native.Nat.{ℕ, _+_, _-_, _<_, _≤_, min}
+use Prim.Native.Nat.{ℕ, zero, suc, _+_, _-_, _<_, _≤_, min}
 use native.Mathlib.Omega.{arith}
-use mathlib.Core.Path.{_≡_, refl, sym, ap, _∙_}
+use mathlib.Core.Path.{_≡_}
 use mathlib.Core.Logic.{_≢_, _⊎_, inl, inr}
-use mathlib.Core.Bool.{Bool, true, false, cond, false≢true}
+use mathlib.Core.Bool.{true, false, false≢true}
 use mathlib.Core.List.{List}
 use borrow.Author.Tests.{ltb-true, lt-ltb, le-ltb}
-use lib.Dec.{ltb}
 use lib.IntN.{ℤ, pos, negsuc}
 use lib.Signed.{ltZ}
-use lib.ListN.{length, getD}
+use lib.ListN.{length, getD, replicate}
 use lib.Seq.{getD-set-same, getD-set-other}
 use Rattle.plain.specs.Turns.{times, Turned}
 use Rattle.plain.proofs.Turns.{finish}
 use Rattle.cells.specs.View.{nat, at, wr, negative}
-use Rattle.cells.specs.Rows.{isRow, rowOf, Rows, Swept, clipped}
-use Rattle.cells.proofs.Slices.{split, same?, at-wr-same, at-wr-other, at-out, wr-out, length-wr}
+use Rattle.cells.specs.Rows.{isRow, Rows, clipped}
+use Rattle.cells.proofs.Slices.{split, same?, at-out, wr-out, length-wr}
 
 row-low : (n : ℕ) (z : ℤ) → isRow n z ≡ true → (nat z < n) × (ltZ z (pos 0) ≡ false)
 row-low n (pos k) e = (ltb-true k n e, le-ltb k 0 (omega arith))
@@ -77,58 +76,12 @@ pub clipped-finish : {X : Type 0} (f : ℕ → X → X) (s : X) (t : ℕ) (x : X
     → x ≡ times (clipped size p k) f s
 clipped-finish f s t x h size p k m e a b = finish f s t x h (clipped size p k) (omega arith) (omega arith)
 
--- ---- a sweep
+-- ---- a slice that was cleared holds row 0 everywhere
 
--- the first t cells are done
-pub record Sweeping (n : ℕ) (l : List ℤ) (t : ℕ) (m : List ℤ) : Type 0 where
-  pub long : length m ≡ length l
-  pub done : (q : ℕ) → q < t → isRow n (getD m q (pos 0)) ≡ true
-  pub left : (q : ℕ) → t ≤ q → at m q ≡ at l q
-  pub kept : (q : ℕ) → at l q < n → at m q ≡ at l q
+cleared-row : (n : ℕ) → 0 < n → (k q : ℕ) → isRow n (getD (replicate k (pos 0)) q (pos 0)) ≡ true
+cleared-row n z zero q = lt-ltb 0 n z
+cleared-row n z (suc k) zero = lt-ltb 0 n z
+cleared-row n z (suc k) (suc q) = cleared-row n z k q
 
-pub row-kept : (n x y : ℕ) (l m : List ℤ) (q : ℕ) → x ≡ y → m ≡ wr l q x → x < n → m ≡ wr l q (rowOf n y)
-row-kept n x y l m q e f h = f ∙ ap (wr l q) (e ∙ sym (ap (λ (b : Bool). cond b y 0) (lt-ltb y n (rw e at h))))
-
-pub row-gone : (n x y : ℕ) (l m : List ℤ) (q : ℕ) → x ≡ y → m ≡ wr l q 0 → n ≤ x → m ≡ wr l q (rowOf n y)
-row-gone n x y l m q e f h = f ∙ ap (wr l q) (sym (ap (λ (b : Bool). cond b y 0) (le-ltb y n (rw e at h))))
-
-pub sweep-begins : (n : ℕ) (l : List ℤ) → Sweeping n l 0 l
-sweep-begins n l = record { long = refl; done = λ q a. absurd (omega arith); left = λ q a. refl; kept = λ q a. refl }
-
-row-of : (n x : ℕ) → 0 < n → rowOf n x < n
-row-of n x z = go (split x n)
-  where
-    go : (x < n) ⊎ (n ≤ x) → rowOf n x < n
-    go (inl a) = rw (lt-ltb x n a) a
-    go (inr a) = rw (le-ltb x n a) z
-
-module _ (n : ℕ) (z : 0 < n) (l : List ℤ) (t : ℕ) (m : List ℤ) (h : Sweeping n l t m) (b : t < length m) where
-  next : List ℤ
-  next = wr m t (rowOf n (at m t))
-
-  done-by : (q : ℕ) → q < t + 1 → (q ≡ t) ⊎ (q ≢ t) → isRow n (getD next q (pos 0)) ≡ true
-  unfolding next wr
-  done-by q a (inl e) = rw (e, getD-set-same m t (pos (rowOf n (at m t))) (pos 0) b) (lt-ltb (rowOf n (at m t)) n (row-of n (at m t) z))
-  done-by q a (inr d) = rw (getD-set-other m t q (pos (rowOf n (at m t))) (pos 0) d) (h .done q (omega arith))
-
-  kept-by : (q : ℕ) → at l q < n → (q ≡ t) ⊎ (q ≢ t) → at next q ≡ at l q
-  unfolding next
-  kept-by q a (inl e) =
-      let same : at m t ≡ at l t = h .left t (omega arith) in
-      let low : at m t < n = rw (same, sym e) a in
-      rw e (at-wr-same m t (rowOf n (at m t)) b ∙ ap (λ (y : Bool). cond y (at m t) 0) (lt-ltb (at m t) n low) ∙ same)
-  kept-by q a (inr d) = at-wr-other m t (rowOf n (at m t)) q d ∙ h .kept q a
-
-  pub sweep-goes : (m′ : List ℤ) → m′ ≡ wr m t (rowOf n (at m t)) → Sweeping n l (t + 1) m′
-  unfolding next
-  sweep-goes m′ e =
-      rw e
-      (record {
-        long = length-wr m t (rowOf n (at m t)) ∙ h .long;
-        done = λ q a. done-by q a (same? q t);
-        left = λ q a. at-wr-other m t (rowOf n (at m t)) q (λ e. omega arith) ∙ h .left q (omega arith);
-        kept = λ q a. kept-by q a (same? q t);
-      })
-
-pub sweep-ends : (n : ℕ) (l : List ℤ) (t : ℕ) (m : List ℤ) → length l ≤ t → Sweeping n l t m → Swept n l m
-sweep-ends n l t m b h = record { rows = record { low = λ q a. h .done q (omega (arith, h .long)) }; long = h .long; kept = h .kept }
+pub rows-cleared : (n k : ℕ) → 0 < n → Rows n (replicate k (pos 0))
+rows-cleared n k z = record { low = λ q b. cleared-row n z k q }

@@ -7,7 +7,7 @@ ghost use lib.ListN.{length, replicate};
 ghost use lib.IntN.{pos};
 ghost use lib.Signed.{mag};
 ghost use Rattle.cells.specs.View.{at, wr, rd, up, Room, plus, negative};
-ghost use Rattle.cells.specs.Rows.{Rows, Swept, rowOf, clipped};
+ghost use Rattle.cells.specs.Rows.{Rows, clipped};
 ghost use Rattle.cells.specs.Links.{flipped, coded, decoded, named, linked, parent, hang};
 
 // No parent, as the Rust has it.
@@ -95,7 +95,7 @@ fn peek(l: &[i64], i: usize) -> usize
 }
 
 // Cell `i` becomes `v`; nothing is done where there is no such cell.
-pub fn poke(l: &mut [i64], i: usize, v: usize)
+fn poke(l: &mut [i64], i: usize, v: usize)
     requires { ⌜ v < 2 ^ 63 ⌝ }
     ensures { λ _. ⌜ now (l .exit) ≡ wr (now (l .entry)) i v ⌝ }
 {
@@ -133,6 +133,16 @@ pub fn put_row(l: &mut [i64], n: usize, q: usize, v: usize)
     store(l, q, v);
 }
 
+// The same; nothing is done where there is no such cell.
+pub fn poke_row(l: &mut [i64], n: usize, q: usize, v: usize)
+    requires { ⌜ Rows n (now l) × (v < n) × (v < 2 ^ 63) ⌝ }
+    ensures { λ _. ⌜ (now (l .exit) ≡ wr (now (l .entry)) q v) × Rows n (now (l .exit)) ⌝ }
+{
+    if q < l.len() {
+        store(l, q, v);
+    }
+}
+
 // Cell `e` becomes what cell `p` is.
 pub fn copy_row(l: &mut [i64], n: usize, p: usize, e: usize)
     requires { ⌜ Rows n (now l) ⌝ }
@@ -148,29 +158,6 @@ pub fn clip(size: usize, p: usize, k: usize) -> usize
 {
     let rest = less(size, p);
     if k < rest { k } else { rest }
-}
-
-// Cell `q` becomes row 0, if it holds no row.
-fn sweep_one(l: &mut [i64], n: usize, q: usize)
-    requires { ⌜ q < length (now l) ⌝ }
-    ensures { λ _. ⌜ now (l .exit) ≡ wr (now (l .entry)) q (rowOf n (at (now (l .entry)) q)) ⌝ }
-{
-    let x = load(l, q);
-    if x < n {
-        store(l, q, x);
-    } else {
-        store(l, q, 0);
-    }
-}
-
-// Every cell that holds no row becomes row 0.
-pub fn sweep(l: &mut [i64], n: usize)
-    requires { ⌜ 0 < n ⌝ }
-    ensures { λ _. ⌜ Swept n (now (l .entry)) (now (l .exit)) ⌝ }
-{
-    for q in 0..l.len() {
-        sweep_one(l, n, q);
-    }
 }
 
 // ---- a field of the scratch

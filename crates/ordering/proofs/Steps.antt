@@ -1,12 +1,12 @@
 -- Code to model: an answer by its number, the threshold, the scratch, and the course of an ordering.
 -- Assumes nothing.
-use Prim.Native.Nat.{ℕ, _+_, _*_, _≤_}
+use Prim.Native.Nat.{ℕ, _+_, _*_, _<_, _≤_}
 use mathlib.Core.Path.{_≡_, refl, ap, _∙_}
 use mathlib.Core.Bool.{Bool}
 use mathlib.Core.List.{List}
 use lib.Dec.{eqb}
 use lib.IntN.{ℤ, pos}
-use lib.ListN.{length, replicate}
+use lib.ListN.{length, length-replicate, replicate}
 use lib.Signed.{ltZ}
 use mir.Syntax.{w32}
 use mir.Val.{toZ, ofZ}
@@ -17,9 +17,10 @@ use Rattle.numbers.specs.declared.Answer.{Answer}
 use Rattle.numbers.specs.declared.Answer.the-variants.{Ordered, OrderedJumbled, WrongCount, WrongMultiplier, WrongOutputs, WrongPointers, WrongRows, WrongRoom}
 use Rattle.numbers.specs.declared.Settings.{Settings}
 use Rattle.cells.proofs.Fields.{room-cleared}
-use Rattle.cells.specs.Rows.{Swept}
+use Rattle.cells.proofs.Rows.{rows-cleared}
+use Rattle.cells.specs.Rows.{Rows}
 use Rattle.cells.specs.View.{Room}
-use Rattle.pattern.specs.Model.{Heap, heap, tidied, built, builtFree}
+use Rattle.pattern.specs.Model.{heap, tidied, built, builtFree}
 use Rattle.elimination.specs.declared.Eliminated.{Eliminated}
 use Rattle.elimination.specs.Runs.{Whole}
 use Rattle.tree.specs.Final.{Outputs}
@@ -65,23 +66,28 @@ limit-step r n a b h e = h ∙ ap (λ (x : Rule). threshold x n) e
 pub blank-step : (n : ℕ) (s t : List ℤ) → t ≡ replicate (length s) (pos 0) → 16 * n + 16 ≤ length s → Room n t
 blank-step n s t e h = rw e (room-cleared n (length s) h)
 
+-- ---- the lists
+
+pub blank-lists-step : (n : ℕ) (l m : List ℤ) → m ≡ replicate (length l) (pos 0) → 0 < n → Rows n m × (length m ≡ length l)
+blank-lists-step n l m e z = rw e (rows-cleared n (length l) z, length-replicate (length l) (pos 0))
+
 -- ---- the course
 
 pub course : (n : ℕ) (a b : List ℤ) (x : Settings) (jumbled : Bool) (l s p i p′ i′ l₀ l₁ s₁ l′ s′ : List ℤ) (free limit : ℕ) (e : Eliminated)
     → Outputs n (e .merges) s′ p i p′ i′
     → Whole n limit free (x .aggressive) l₁ s₁ l′ s′ e
     → limit ≡ threshold (orFullRows (ruleOf (x .multiplier))) n
-    → Swept n l₀ l₁
-    → heap l₀ s₁ ≡ built n l (tidied n a b jumbled s)
-    → free ≡ builtFree n l (tidied n a b jumbled s)
+    → length l₀ ≡ length l
+    → heap l₁ s₁ ≡ built n l₀ (tidied n a b jumbled s)
+    → free ≡ builtFree n l₀ (tidied n a b jumbled s)
     → Course n a b x jumbled l s p i p′ i′ (e .statistics)
-course n a b x jumbled l s p i p′ i′ l₀ l₁ s₁ l′ s′ free limit e outputs whole hl swept ht hf = record {
-  l₁ = l₁;
-  swept = rw (← ap (λ (h : Heap). h .lists) ht) swept;
+course n a b x jumbled l s p i p′ i′ l₀ l₁ s₁ l′ s′ free limit e outputs whole hl long ht hf = record {
+  l₀ = l₀;
+  long = long;
   l′ = l′;
   s′ = s′;
   e = e;
-  whole = rw (← hl, ← hf, ← ap (λ (h : Heap). h .mem) ht) whole;
+  whole = rw (← hl, ← hf, ← ht) whole;
   outputs = outputs;
   counts = refl;
 }

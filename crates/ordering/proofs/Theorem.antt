@@ -24,7 +24,6 @@ use Rattle.numbers.specs.declared.Settings.{Settings}
 use Rattle.numbers.specs.declared.Statistics.{Statistics}
 use Rattle.checks.specs.Given.{patternGiven, problemGiven}
 use Rattle.cells.specs.View.{Room}
-use Rattle.pattern.proofs.Swept.{packed-swept}
 use Rattle.pattern.proofs.Taking.{taken-rep, taken-long, taken-room}
 use Rattle.pattern.specs.Model.{tidied, built, builtFree}
 use Rattle.standing.proofs.Finished.{eliminated}
@@ -87,27 +86,24 @@ module _ (n : ℤ) (a b : List ℤ) (x : Settings) (p i l s : List ℤ) where
     abbrev tidy : List ℤ
     tidy = tidied (columnCount pattern) a b jumbled t
 
-    room : 2 * nnz pattern + columnCount pattern ≤ length part
-    room = omega (arith, size, cut-room problem ok)
+    long : length (c .l₀) ≡ min (length l) (2 ^ 61)
+    long = c .long ∙ size
+
+    room : 2 * nnz pattern + columnCount pattern ≤ length (c .l₀)
+    room = omega (arith, long, cut-room problem ok)
 
     fits : nnz pattern + 16 * columnCount pattern + 16 ≤ length t
     fits = omega (arith, wide, scratch-room problem ok)
 
-    -- every entry of the graph is a row, so a sweep leaves it
-    inside : (v w : ℕ) → In w (getD (graphOf pattern) v []) → w < columnCount pattern
-    inside v w m = rw (← length-graph problem ok) (neighbourly-graph problem ok .inside v w m)
-
-    result : Result short (c .l₁) (c .l′) (c .s′) (c .e)
+    result : Result short (built (columnCount pattern) (c .l₀) tidy .lists) (c .l′) (c .s′) (c .e)
     unfolding ruleFor
     result =
-        let long = c .swept .long ∙ taken-long short short-ok t calm fits part jumbled is room in
-        let packed = taken-rep short short-ok t calm fits part jumbled is room in
-        eliminated short short-ok (c .l₁) (built (columnCount pattern) part tidy .mem) (builtFree (columnCount pattern) part tidy)
-        (taken-room short short-ok t calm fits part jumbled is room)
-        (packed-swept (columnCount pattern) (graphOf pattern) (built (columnCount pattern) part tidy .lists) (built (columnCount pattern) part tidy .mem)
-        (builtFree (columnCount pattern) part tidy) inside packed (c .l₁) (c .swept))
-        (long ∙ size)
-        (omega (arith, long, size))
+        let same = taken-long short short-ok t calm fits (c .l₀) jumbled is room in
+        eliminated short short-ok (built (columnCount pattern) (c .l₀) tidy .lists) (built (columnCount pattern) (c .l₀) tidy .mem) (builtFree (columnCount pattern) (c .l₀) tidy)
+        (taken-room short short-ok t calm fits (c .l₀) jumbled is room)
+        (taken-rep short short-ok t calm fits (c .l₀) jumbled is room)
+        (same ∙ long)
+        (omega (arith, same, long))
         (c .l′) (c .s′) (c .e) (c .whole)
 
     pub course-outputs : (p′ ≡ map pos (plain pattern (ruleFor problem) (x .aggressive) .permutation)) × (i′ ≡ map pos (plain pattern (ruleFor problem) (x .aggressive) .inverse))

@@ -11,6 +11,7 @@ ghost use Rattle.definition.specs.Answers.{accepts, answerOf, numberOf, orFullR
 ghost use Rattle.definition.specs.Promise.{problemOf, after};
 ghost use Rattle.numbers.specs.Meaning.{answerMeant};
 ghost use Rattle.cells.specs.View.{Room};
+ghost use Rattle.cells.specs.Rows.{Rows};
 ghost use Rattle.ordering.specs.Left.{lent, left};
 ghost use Rattle.ordering.specs.Course.{Course};
 ghost use Rattle.ordering.specs.Meets.{Meets};
@@ -84,8 +85,15 @@ fn blank(s: &mut [i64], n: usize)
     cells::clear(s);
 }
 
-// The pattern is taken, its graph eliminated, and the tree that this leaves put in order. The lists too are lent with anything in them: once they are swept,
-// every cell holds a row.
+// The lists too are lent with anything in them: once they are cleared, every cell holds a row.
+fn blank_lists(l: &mut [i64], n: usize)
+    requires { ⌜ 0 < n ⌝ }
+    ensures { λ _. ⌜ Rows n (now (l .exit)) × (length (now (l .exit)) ≡ length (now (l .entry))) ⌝ }
+{
+    cells::clear(l);
+}
+
+// The pattern is taken, its graph eliminated, and the tree that this leaves put in order.
 fn order_pattern(
     pointers: &[i32],
     rows: &[i32],
@@ -100,8 +108,8 @@ fn order_pattern(
     requires { ⌜ Room n (now scratch) × (0 < n) × (n ≤ baseLimits .mostColumns) × (isNone (ruleOf (settings .multiplier)) ≡ false) ⌝ }
     ensures { λ r. ⌜ Course n (now (pointers .entry)) (now (rows .entry)) settings jumbled (now (lists .entry)) (now (scratch .entry)) (now (permutation .entry)) (now (inverse .entry)) (now (permutation .exit)) (now (inverse .exit)) r ⌝ }
 {
+    blank_lists(lists, n);
     let free = pattern::take_pattern(pointers, rows, lists, scratch, n, jumbled);
-    cells::sweep(lists, n);
     let limit = limit_of(settings, n);
     let e = elimination::eliminate(lists, scratch, n, limit, free, settings.aggressive);
     tree::order_tree(scratch, n, e.merges, permutation, inverse);

@@ -10,5 +10,4 @@ pub mod Transposing
 pub mod Copying
 pub mod Source
 pub mod Taking
-pub mod Swept
 pub mod Example

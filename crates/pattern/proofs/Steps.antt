@@ -1,12 +1,12 @@
 -- The code against its models: one law for each way out of a function, its premises in the words of what was called.
 -- Assumes nothing.
-use Prim.Native.Nat.{ℕ, _+_, _-_, _≤_}
+use Prim.Native.Nat.{ℕ, _+_, _-_, _<_, _≤_}
 use mathlib.Core.Path.{_≡_, ap, _∙_}
 use mathlib.Core.Logic.{_≢_}
 use mathlib.Core.Bool.{Bool, true, false}
 use mathlib.Core.List.{List}
 use lib.IntN.{ℤ}
-use borrow.Author.Tests.{eq-eqb, ne-eqb}
+use borrow.Author.Tests.{eq-eqb, le-ltb, lt-ltb, ne-eqb}
 use Rattle.plain.specs.Turns.{times, Turned}
 use Rattle.plain.proofs.Turns.{finish}
 use Rattle.cells.specs.View.{at, wr, rd, up, plus}
@@ -78,9 +78,13 @@ pub pair-step : (n i j : ℕ) (l m o s t u : List ℤ) → heap m t ≡ added n 
 unfolding paired
 pair-step n i j l m o s t u h k = k ∙ ap (added n j i) h
 
-pub pair-at-step : (n i j p : ℕ) (l m s u : List ℤ) → i ≡ rd n 16 s p → heap m u ≡ paired n i j (heap l s) → heap m u ≡ pairedAt n j p (heap l s)
+pub pair-at-step : (n i j p : ℕ) (l m s u : List ℤ) → i ≡ rd n 16 s p → heap m u ≡ paired n i j (heap l s) → i < n → heap m u ≡ pairedAt n j p (heap l s)
 unfolding pairedAt
-pair-at-step n i j p l m s u hi h = h ∙ ap (λ (x : ℕ). paired n x j (heap l s)) hi
+pair-at-step n i j p l m s u hi h b = rw (← hi, lt-ltb i n b) h
+
+pub pair-at-none : (n i j p : ℕ) (l s : List ℤ) → i ≡ rd n 16 s p → n ≤ i → heap l s ≡ pairedAt n j p (heap l s)
+unfolding pairedAt
+pair-at-none n i j p l s hi b = rw (← hi, le-ltb i n b)
 
 -- a loop over the places from p on, before q, has done them
 pub finish-part : {A : Type 0} (f : ℕ → A → A) (m : A) (k : ℕ) (x : A) → Turned f m k x → (c p q : ℕ) → c ≡ q - p → k ≤ c → c ≤ k → x ≡ times (q - p) f m

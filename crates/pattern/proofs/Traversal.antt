@@ -8,10 +8,12 @@ use mathlib.Core.Logic.{_≢_, _⊎_, inl, inr}
 use mathlib.Core.Bool.{true}
 use mathlib.Core.List.{List, [], _∷_, _++_, map, foldl, flatMap, append-assoc, append-nil, map-append}
 use lib.ListN.{length, getD, set, replicate, length-set, length-replicate}
+use lib.Dec.{ltb}
 use lib.Seq.{getD-set-same, getD-set-other}
 use borrow.Author.Tests.{lt-ltb}
 use Rattle.plain.specs.Lists.{member, upTo, countUp}
 use Rattle.plain.specs.Turns.{entries, times}
+use Rattle.plain.proofs.Logic.{cond-has}
 use Rattle.plain.proofs.Members.{no-member}
 use Rattle.plain.proofs.Entries.{entries-snoc}
 use Rattle.plain.proofs.Positions.{member-entries, getD-same, set-has}
@@ -51,7 +53,8 @@ paired-rows n i j h q = paired-field n i j h 16 (inr (inr refl)) q
 
 pub paired-at-rows : (n j p : ℕ) (h : Heap) (q : ℕ) → rd n 16 (pairedAt n j p h .mem) q ≡ rd n 16 (h .mem) q
 unfolding pairedAt
-paired-at-rows n j p h q = paired-rows n (rd n 16 (h .mem) p) j h q
+paired-at-rows n j p h q =
+    cond-has (λ (x : Heap). rd n 16 (x .mem) q ≡ rd n 16 (h .mem) q) (ltb (rd n 16 (h .mem) p) n) (λ e. paired-rows n (rd n 16 (h .mem) p) j h q) (λ e. refl)
 
 passed-rows : (n j k : ℕ) (h : Heap) (q : ℕ) → rd n 16 (passed n j k h .mem) q ≡ rd n 16 (h .mem) q
 unfolding passed marked pairedPart
@@ -105,7 +108,7 @@ module _ (n : ℕ) (E F : ℕ → ℕ) (cols : List (List ℕ)) (stands : Stands
       → Scanning top (more m (map (λ i. pair i j) (entries F p (suc d)))) (pairedAt n j (p + d) x)
   unfolding pairedAt
   one-more top m x j p d hj r l =
-      rw (entries-snoc F p d, ← snoc-map (λ i. pair i j) (m .met) (entries F p d) (F (p + d)), r .row (p + d))
+      rw (entries-snoc F p d, ← snoc-map (λ i. pair i j) (m .met) (entries F p d) (F (p + d)), r .row (p + d), lt-ltb (F (p + d)) n l)
       (pair-scan top (more m (map (λ i. pair i j) (entries F p d))) x (F (p + d)) j l hj r)
 
   -- the pairs of column j from place p on

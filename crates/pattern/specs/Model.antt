@@ -3,7 +3,7 @@
 use Prim.Native.Nat.{ℕ, _+_, _-_}
 use mathlib.Core.Bool.{Bool, cond}
 use mathlib.Core.List.{List}
-use lib.Dec.{eqb}
+use lib.Dec.{eqb, ltb}
 use lib.IntN.{ℤ}
 use Rattle.plain.specs.Turns.{times}
 use Rattle.cells.specs.Layout.{PE, LEN, SP, TP, COLUMN, ENTRY}
@@ -97,9 +97,9 @@ added n i x h = heap (wr (h .lists) (rd n SP (h .mem) i) x) (up n SP (h .mem) i 
 unfoldable pub paired : ℕ → ℕ → ℕ → Heap → Heap
 paired n i j h = added n j i (added n i j h)
 
--- the entry of column j at place p; and those from p on, before q
+-- the entry of column j at place p, if it is a row; and those from p on, before q
 unfoldable pub pairedAt : ℕ → ℕ → ℕ → Heap → Heap
-pairedAt n j p h = paired n (rd n ENTRY (h .mem) p) j h
+pairedAt n j p h = cond (ltb (rd n ENTRY (h .mem) p) n) (paired n (rd n ENTRY (h .mem) p) j h) h
 
 unfoldable pub pairedPart : ℕ → ℕ → ℕ → ℕ → Heap → Heap
 pairedPart n j p q h = times (q - p) (λ t. pairedAt n j (p + t)) h

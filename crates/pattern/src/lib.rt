@@ -3,6 +3,7 @@
 ghost use mathlib.Core.Path.{_≡_};
 ghost use Prim.Native.Nat.{_+_, _-_, _<_, _≤_, _^_};
 ghost use Rattle.cells.specs.View.{at, rd, Room};
+ghost use Rattle.cells.specs.Rows.{Rows};
 ghost use Rattle.pattern.specs.Reach.{reach, behind, past};
 ghost use Rattle.pattern.specs.Model.{copiedPointers, copiedRows, copied, cleared, clearedAll, rowed, visited, visitedColumn, visitedNext, visitedAll, spot, placedRow, placedRows, transposed, tidied, heap, added, paired, pairedAt, pairedPart, passed, met, metPart, metColumn, metColumns, metRest, metRests, scanned, emptiedAll, placedList, placedLists, built, builtFree};
 
@@ -157,36 +158,38 @@ pub fn tidy(ptr: &[i32], rows: &[i32], s: &mut [i64], n: usize, jumbled: bool)
 
 // `x` becomes the next neighbour of `i`.
 pub fn add(lists: &mut [i64], s: &mut [i64], n: usize, i: usize, x: usize)
-    requires { ⌜ Room n (now s) × (x < 2 ^ 63) ⌝ }
-    ensures { λ _. ⌜ (heap (now (lists .exit)) (now (s .exit)) ≡ added n i x (heap (now (lists .entry)) (now (s .entry)))) × Room n (now (s .exit)) ⌝ }
+    requires { ⌜ Room n (now s) × Rows n (now lists) × (i < n) × (x < n) × (x < 2 ^ 63) ⌝ }
+    ensures { λ _. ⌜ (heap (now (lists .exit)) (now (s .exit)) ≡ added n i x (heap (now (lists .entry)) (now (s .entry)))) × Room n (now (s .exit)) × Rows n (now (lists .exit)) ⌝ }
 {
-    let at = cells::tab(s, n, cells::SP, i);
-    cells::poke(lists, at, x);
+    let at = cells::look(s, n, cells::SP, i);
+    cells::poke_row(lists, n, at, x);
     let next = cells::plus(at, 1);
-    cells::put(s, n, cells::SP, i, next);
+    cells::note(s, n, cells::SP, i, next);
 }
 
 pub fn add_pair(lists: &mut [i64], s: &mut [i64], n: usize, i: usize, j: usize)
-    requires { ⌜ Room n (now s) × (i < 2 ^ 63) × (j < 2 ^ 63) ⌝ }
-    ensures { λ _. ⌜ (heap (now (lists .exit)) (now (s .exit)) ≡ paired n i j (heap (now (lists .entry)) (now (s .entry)))) × Room n (now (s .exit)) ⌝ }
+    requires { ⌜ Room n (now s) × Rows n (now lists) × (i < n) × (j < n) × (i < 2 ^ 63) × (j < 2 ^ 63) ⌝ }
+    ensures { λ _. ⌜ (heap (now (lists .exit)) (now (s .exit)) ≡ paired n i j (heap (now (lists .entry)) (now (s .entry)))) × Room n (now (s .exit)) × Rows n (now (lists .exit)) ⌝ }
 {
     add(lists, s, n, i, j);
     add(lists, s, n, j, i);
 }
 
-// The entry of column `j` at `p`.
+// The entry of column `j` at `p`, if it is a row.
 pub fn pair_at(lists: &mut [i64], s: &mut [i64], n: usize, j: usize, p: usize)
-    requires { ⌜ Room n (now s) × (j < 2 ^ 63) ⌝ }
-    ensures { λ _. ⌜ (heap (now (lists .exit)) (now (s .exit)) ≡ pairedAt n j p (heap (now (lists .entry)) (now (s .entry)))) × Room n (now (s .exit)) ⌝ }
+    requires { ⌜ Room n (now s) × Rows n (now lists) × (j < n) × (j < 2 ^ 63) ⌝ }
+    ensures { λ _. ⌜ (heap (now (lists .exit)) (now (s .exit)) ≡ pairedAt n j p (heap (now (lists .entry)) (now (s .entry)))) × Room n (now (s .exit)) × Rows n (now (lists .exit)) ⌝ }
 {
     let i = cells::entry(s, n, p);
-    add_pair(lists, s, n, i, j);
+    if i < n {
+        add_pair(lists, s, n, i, j);
+    }
 }
 
 // The entries of column `j` from `from` on, before `to`.
 pub fn pair_part(lists: &mut [i64], s: &mut [i64], n: usize, j: usize, from: usize, to: usize)
-    requires { ⌜ Room n (now s) × (j < 2 ^ 63) × (from < 2 ^ 63) × (to < 2 ^ 63) ⌝ }
-    ensures { λ _. ⌜ (heap (now (lists .exit)) (now (s .exit)) ≡ pairedPart n j from to (heap (now (lists .entry)) (now (s .entry)))) × Room n (now (s .exit)) ⌝ }
+    requires { ⌜ Room n (now s) × Rows n (now lists) × (j < n) × (j < 2 ^ 63) × (from < 2 ^ 63) × (to < 2 ^ 63) ⌝ }
+    ensures { λ _. ⌜ (heap (now (lists .exit)) (now (s .exit)) ≡ pairedPart n j from to (heap (now (lists .entry)) (now (s .entry)))) × Room n (now (s .exit)) × Rows n (now (lists .exit)) ⌝ }
 {
     let count = cells::less(to, from);
     for t in 0..count {
@@ -212,8 +215,8 @@ pub fn pair_above(
     from: usize,
     to: usize,
 ) -> usize
-    requires { ⌜ Room n (now s) × (j < 2 ^ 63) × (from < 2 ^ 63) × (to < 2 ^ 63) ⌝ }
-    ensures { λ r. ⌜ (heap (now (lists .exit)) (now (s .exit)) ≡ pairedPart n j from (reach (rd n 16 (now (s .entry))) k from to) (heap (now (lists .entry)) (now (s .entry)))) × (r ≡ past (rd n 16 (now (s .entry))) k (reach (rd n 16 (now (s .entry))) k from to) to) × Room n (now (s .exit)) × (r < 2 ^ 63) ⌝ }
+    requires { ⌜ Room n (now s) × Rows n (now lists) × (j < n) × (j < 2 ^ 63) × (k < n) × (from < 2 ^ 63) × (to < 2 ^ 63) ⌝ }
+    ensures { λ r. ⌜ (heap (now (lists .exit)) (now (s .exit)) ≡ pairedPart n j from (reach (rd n 16 (now (s .entry))) k from to) (heap (now (lists .entry)) (now (s .entry)))) × (r ≡ past (rd n 16 (now (s .entry))) k (reach (rd n 16 (now (s .entry))) k from to) to) × Room n (now (s .exit)) × Rows n (now (lists .exit)) × (r < 2 ^ 63) ⌝ }
 {
     let mut p = from;
     while p < to {
@@ -229,19 +232,19 @@ pub fn pair_above(
 
 // What waits in column `j` before row `k`: it is in no column above the diagonal. Row `k` itself, if it is next, is the pair that led here.
 pub fn pass(lists: &mut [i64], s: &mut [i64], n: usize, j: usize, k: usize)
-    requires { ⌜ Room n (now s) × (j < 2 ^ 63) ⌝ }
-    ensures { λ _. ⌜ (heap (now (lists .exit)) (now (s .exit)) ≡ passed n j k (heap (now (lists .entry)) (now (s .entry)))) × Room n (now (s .exit)) ⌝ }
+    requires { ⌜ Room n (now s) × Rows n (now lists) × (j < n) × (j < 2 ^ 63) × (k < n) ⌝ }
+    ensures { λ _. ⌜ (heap (now (lists .exit)) (now (s .exit)) ≡ passed n j k (heap (now (lists .entry)) (now (s .entry)))) × Room n (now (s .exit)) × Rows n (now (lists .exit)) ⌝ }
 {
-    let from = cells::tab(s, n, cells::TP, j);
+    let from = cells::look(s, n, cells::TP, j);
     let to = cells::column(s, n, j + 1);
     let next = pair_above(lists, s, n, j, k, from, to);
-    cells::put(s, n, cells::TP, j, next);
+    cells::note(s, n, cells::TP, j, next);
 }
 
 // Row `j` of column `k`, above the diagonal.
 pub fn meet(lists: &mut [i64], s: &mut [i64], n: usize, k: usize, j: usize)
-    requires { ⌜ Room n (now s) × (k < 2 ^ 63) × (j < 2 ^ 63) ⌝ }
-    ensures { λ _. ⌜ (heap (now (lists .exit)) (now (s .exit)) ≡ met n k j (heap (now (lists .entry)) (now (s .entry)))) × Room n (now (s .exit)) ⌝ }
+    requires { ⌜ Room n (now s) × Rows n (now lists) × (k < n) × (k < 2 ^ 63) × (j < n) × (j < 2 ^ 63) ⌝ }
+    ensures { λ _. ⌜ (heap (now (lists .exit)) (now (s .exit)) ≡ met n k j (heap (now (lists .entry)) (now (s .entry)))) × Room n (now (s .exit)) × Rows n (now (lists .exit)) ⌝ }
 {
     add_pair(lists, s, n, j, k);
     pass(lists, s, n, j, k);
@@ -256,8 +259,8 @@ pub fn meet_above(
     from: usize,
     to: usize,
 ) -> usize
-    requires { ⌜ Room n (now s) × (k < 2 ^ 63) × (from < 2 ^ 63) × (to < 2 ^ 63) ⌝ }
-    ensures { λ r. ⌜ (heap (now (lists .exit)) (now (s .exit)) ≡ metPart n k from (reach (rd n 16 (now (s .entry))) k from to) (heap (now (lists .entry)) (now (s .entry)))) × (r ≡ past (rd n 16 (now (s .entry))) k (reach (rd n 16 (now (s .entry))) k from to) to) × Room n (now (s .exit)) × (r < 2 ^ 63) ⌝ }
+    requires { ⌜ Room n (now s) × Rows n (now lists) × (k < n) × (k < 2 ^ 63) × (from < 2 ^ 63) × (to < 2 ^ 63) ⌝ }
+    ensures { λ r. ⌜ (heap (now (lists .exit)) (now (s .exit)) ≡ metPart n k from (reach (rd n 16 (now (s .entry))) k from to) (heap (now (lists .entry)) (now (s .entry)))) × (r ≡ past (rd n 16 (now (s .entry))) k (reach (rd n 16 (now (s .entry))) k from to) to) × Room n (now (s .exit)) × Rows n (now (lists .exit)) × (r < 2 ^ 63) ⌝ }
 {
     let mut p = from;
     while p < to {
@@ -273,18 +276,18 @@ pub fn meet_above(
 
 // Column `k`: its entries above the diagonal in turn, and what is below waits.
 pub fn meet_column(lists: &mut [i64], s: &mut [i64], n: usize, k: usize)
-    requires { ⌜ Room n (now s) × (k < 2 ^ 63) ⌝ }
-    ensures { λ _. ⌜ (heap (now (lists .exit)) (now (s .exit)) ≡ metColumn n k (heap (now (lists .entry)) (now (s .entry)))) × Room n (now (s .exit)) ⌝ }
+    requires { ⌜ Room n (now s) × Rows n (now lists) × (k < n) × (k < 2 ^ 63) ⌝ }
+    ensures { λ _. ⌜ (heap (now (lists .exit)) (now (s .exit)) ≡ metColumn n k (heap (now (lists .entry)) (now (s .entry)))) × Room n (now (s .exit)) × Rows n (now (lists .exit)) ⌝ }
 {
     let from = cells::column(s, n, k);
     let to = cells::column(s, n, k + 1);
     let next = meet_above(lists, s, n, k, from, to);
-    cells::put(s, n, cells::TP, k, next);
+    cells::note(s, n, cells::TP, k, next);
 }
 
 pub fn meet_columns(lists: &mut [i64], s: &mut [i64], n: usize)
-    requires { ⌜ Room n (now s) ⌝ }
-    ensures { λ _. ⌜ (heap (now (lists .exit)) (now (s .exit)) ≡ metColumns n (heap (now (lists .entry)) (now (s .entry)))) × Room n (now (s .exit)) ⌝ }
+    requires { ⌜ Room n (now s) × Rows n (now lists) ⌝ }
+    ensures { λ _. ⌜ (heap (now (lists .exit)) (now (s .exit)) ≡ metColumns n (heap (now (lists .entry)) (now (s .entry)))) × Room n (now (s .exit)) × Rows n (now (lists .exit)) ⌝ }
 {
     for k in 0..n {
         meet_column(lists, s, n, k);
@@ -293,17 +296,17 @@ pub fn meet_columns(lists: &mut [i64], s: &mut [i64], n: usize)
 
 // What is left of column `j` has no mate above the diagonal.
 pub fn meet_rest(lists: &mut [i64], s: &mut [i64], n: usize, j: usize)
-    requires { ⌜ Room n (now s) × (j < 2 ^ 63) ⌝ }
-    ensures { λ _. ⌜ (heap (now (lists .exit)) (now (s .exit)) ≡ metRest n j (heap (now (lists .entry)) (now (s .entry)))) × Room n (now (s .exit)) ⌝ }
+    requires { ⌜ Room n (now s) × Rows n (now lists) × (j < n) × (j < 2 ^ 63) ⌝ }
+    ensures { λ _. ⌜ (heap (now (lists .exit)) (now (s .exit)) ≡ metRest n j (heap (now (lists .entry)) (now (s .entry)))) × Room n (now (s .exit)) × Rows n (now (lists .exit)) ⌝ }
 {
-    let from = cells::tab(s, n, cells::TP, j);
+    let from = cells::look(s, n, cells::TP, j);
     let to = cells::column(s, n, j + 1);
     pair_part(lists, s, n, j, from, to);
 }
 
 pub fn meet_rests(lists: &mut [i64], s: &mut [i64], n: usize)
-    requires { ⌜ Room n (now s) ⌝ }
-    ensures { λ _. ⌜ (heap (now (lists .exit)) (now (s .exit)) ≡ metRests n (heap (now (lists .entry)) (now (s .entry)))) × Room n (now (s .exit)) ⌝ }
+    requires { ⌜ Room n (now s) × Rows n (now lists) ⌝ }
+    ensures { λ _. ⌜ (heap (now (lists .exit)) (now (s .exit)) ≡ metRests n (heap (now (lists .entry)) (now (s .entry)))) × Room n (now (s .exit)) × Rows n (now (lists .exit)) ⌝ }
 {
     for j in 0..n {
         meet_rest(lists, s, n, j);
@@ -311,8 +314,8 @@ pub fn meet_rests(lists: &mut [i64], s: &mut [i64], n: usize)
 }
 
 pub fn scan(lists: &mut [i64], s: &mut [i64], n: usize)
-    requires { ⌜ Room n (now s) ⌝ }
-    ensures { λ _. ⌜ (heap (now (lists .exit)) (now (s .exit)) ≡ scanned n (heap (now (lists .entry)) (now (s .entry)))) × Room n (now (s .exit)) ⌝ }
+    requires { ⌜ Room n (now s) × Rows n (now lists) ⌝ }
+    ensures { λ _. ⌜ (heap (now (lists .exit)) (now (s .exit)) ≡ scanned n (heap (now (lists .entry)) (now (s .entry)))) × Room n (now (s .exit)) × Rows n (now (lists .exit)) ⌝ }
 {
     meet_columns(lists, s, n);
     meet_rests(lists, s, n);
@@ -354,8 +357,8 @@ pub fn place_lists(s: &mut [i64], n: usize) -> usize
 
 // A+A' of the columns in the scratch, packed from the start of the list space; the result is the next free place.
 pub fn build(lists: &mut [i64], s: &mut [i64], n: usize) -> usize
-    requires { ⌜ Room n (now s) ⌝ }
-    ensures { λ r. ⌜ (heap (now (lists .exit)) (now (s .exit)) ≡ built n (now (lists .entry)) (now (s .entry))) × (r ≡ builtFree n (now (lists .entry)) (now (s .entry))) × Room n (now (s .exit)) × (r < 2 ^ 63) ⌝ }
+    requires { ⌜ Room n (now s) × Rows n (now lists) ⌝ }
+    ensures { λ r. ⌜ (heap (now (lists .exit)) (now (s .exit)) ≡ built n (now (lists .entry)) (now (s .entry))) × (r ≡ builtFree n (now (lists .entry)) (now (s .entry))) × Room n (now (s .exit)) × Rows n (now (lists .exit)) × (r < 2 ^ 63) ⌝ }
 {
     start_building(s, n);
     scan(lists, s, n);
@@ -373,8 +376,8 @@ pub fn take_pattern(
     n: usize,
     jumbled: bool,
 ) -> usize
-    requires { ⌜ Room n (now s) ⌝ }
-    ensures { λ r. ⌜ (heap (now (lists .exit)) (now (s .exit)) ≡ built n (now (lists .entry)) (tidied n (now (ptr .entry)) (now (rows .entry)) jumbled (now (s .entry)))) × (r ≡ builtFree n (now (lists .entry)) (tidied n (now (ptr .entry)) (now (rows .entry)) jumbled (now (s .entry)))) × Room n (now (s .exit)) × (r < 2 ^ 63) ⌝ }
+    requires { ⌜ Room n (now s) × Rows n (now lists) ⌝ }
+    ensures { λ r. ⌜ (heap (now (lists .exit)) (now (s .exit)) ≡ built n (now (lists .entry)) (tidied n (now (ptr .entry)) (now (rows .entry)) jumbled (now (s .entry)))) × (r ≡ builtFree n (now (lists .entry)) (tidied n (now (ptr .entry)) (now (rows .entry)) jumbled (now (s .entry)))) × Room n (now (s .exit)) × Rows n (now (lists .exit)) × (r < 2 ^ 63) ⌝ }
 {
     tidy(ptr, rows, s, n, jumbled);
     build(lists, s, n)

@@ -1,16 +1,23 @@
 -- `ordering::order_pattern` meets its contract.
 -- Assumes nothing.
-use borrow.Author.Needs.{needs}
 use Rattle.definition.specs.Limits.{baseLimits}
 use Rattle.ordering.proofs.Steps.{course}
+use borrow.Author.Needs.{needs}
 use Rattle.ordering.proofs.order_pattern.Statement.{statement}
 use Rattle.ordering.proofs.order_pattern.Tie as tie
+use Rattle.ordering.proofs.order_pattern.Reads as reads
+use Rattle.ordering.proofs.order_pattern.Lts as lts
+use Rattle.elimination.proofs.eliminate.Reads as eliminate-reads
+use Rattle.ordering.proofs.blank_lists.Reads as blank-lists-reads
+use Rattle.ordering.proofs.limit_of.Reads as limit-of-reads
+use Rattle.pattern.proofs.take_pattern.Reads as take-pattern-reads
+use Rattle.tree.proofs.order_tree.Reads as order-tree-reads
+
+blank-lists-requires : tie.Need-blank-lists-requires
+blank-lists-requires c κs = search needs
 
 take-pattern-requires : tie.Need-take-pattern-requires
 take-pattern-requires c κs = search needs
-
-sweep-requires : tie.Need-sweep-requires
-sweep-requires c κs = search needs
 
 limit-of-requires : tie.Need-limit-of-requires
 limit-of-requires c κs = search needs
@@ -36,12 +43,12 @@ same-length-4 c = search needs
 
 returns : tie.Need-returns
 returns c =
-    let taken = c .before .before .before .before .before .before .before .before .before .before .before .before .before .before .before .before .before .before .before .take-pattern .ensures in
+    let taken = c .before .before .before .before .before .before .before .before .before .before .before .before .before .before .before .before .take-pattern .ensures in
     course _ _ _ _ _ _ _ _ _ _ _ _ _ _ _ _ _ _ _
     (c .before .before .before .before .order-tree .ensures)
     (c .before .before .before .before .before .before .before .before .before .before .eliminate .ensures .0)
     (c .before .before .before .before .before .before .before .before .before .before .before .before .before .limit-of .ensures)
-    (c .before .before .before .before .before .before .before .before .before .before .before .before .before .before .before .sweep .ensures)
+    (c .before .before .before .before .before .before .before .before .before .before .before .before .before .before .before .before .before .before .before .before .blank-lists .ensures .1)
     (taken .0)
     (taken .1)
 
@@ -49,8 +56,8 @@ pub order-pattern-spec : {M : Type 1} → statement M
 order-pattern-spec =
     tie.close
     (tie.spec
+    blank-lists-requires
     take-pattern-requires
-    sweep-requires
     limit-of-requires
     eliminate-requires
     order-tree-requires

@@ -1,20 +1,26 @@
 -- `pattern::add` meets its contract. Assumes nothing.
-use borrow.Author.Needs.{needs}
 use Rattle.pattern.proofs.Steps.{add-step}
+use borrow.Author.Needs.{needs}
 use Rattle.pattern.proofs.add.Statement.{statement}
 use Rattle.pattern.proofs.add.Tie as tie
+use Rattle.pattern.proofs.add.Reads as reads
+use Rattle.pattern.proofs.add.Lts as lts
+use Rattle.cells.proofs.look.Reads as look-reads
+use Rattle.cells.proofs.note.Reads as note-reads
+use Rattle.cells.proofs.plus.Reads as plus-reads
+use Rattle.cells.proofs.poke_row.Reads as poke-row-reads
 
-tab-requires : tie.Need-tab-requires
-tab-requires c κs = search needs
+look-requires : tie.Need-look-requires
+look-requires c κs = search needs
 
-poke-requires : tie.Need-poke-requires
-poke-requires c κs = search needs
+poke-row-requires : tie.Need-poke-row-requires
+poke-row-requires c κs = search needs
 
 plus-requires : tie.Need-plus-requires
 plus-requires c κs = search needs
 
-put-requires : tie.Need-put-requires
-put-requires c κs = search needs
+note-requires : tie.Need-note-requires
+note-requires c κs = search needs
 
 same-length : tie.Need-same-length
 same-length c = search needs
@@ -29,10 +35,10 @@ pub add-spec : {M : Type 1} → statement M
 add-spec =
     tie.close
     (tie.spec
-    tab-requires
-    poke-requires
+    look-requires
+    poke-row-requires
     plus-requires
-    put-requires
+    note-requires
     same-length
     same-length-2
     returns)

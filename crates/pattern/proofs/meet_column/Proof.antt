@@ -6,7 +6,7 @@ use Rattle.pattern.proofs.meet_column.Tie as tie
 use Rattle.pattern.proofs.meet_column.Reads as reads
 use Rattle.pattern.proofs.meet_column.Lts as lts
 use Rattle.cells.proofs.column.Reads as column-reads
-use Rattle.cells.proofs.put.Reads as put-reads
+use Rattle.cells.proofs.note.Reads as note-reads
 use Rattle.pattern.proofs.meet_above.Reads as meet-above-reads
 
 column-requires : tie.Need-column-requires
@@ -21,8 +21,8 @@ column-requires-2 c κs = search needs
 meet-above-requires : tie.Need-meet-above-requires
 meet-above-requires c κs = search needs
 
-put-requires : tie.Need-put-requires
-put-requires c κs = search needs
+note-requires : tie.Need-note-requires
+note-requires c κs = search needs
 
 same-length : tie.Need-same-length
 same-length c = search needs
@@ -41,7 +41,7 @@ meet-column-spec =
     add-column
     column-requires-2
     meet-above-requires
-    put-requires
+    note-requires
     same-length
     same-length-2
     returns)

@@ -4,8 +4,8 @@ use Rattle.pattern.proofs.Steps.{meet-rest-step}
 use Rattle.pattern.proofs.meet_rest.Statement.{statement}
 use Rattle.pattern.proofs.meet_rest.Tie as tie
 
-tab-requires : tie.Need-tab-requires
-tab-requires c κs = search needs
+look-requires : tie.Need-look-requires
+look-requires c κs = search needs
 
 add-column : tie.Need-add-column
 add-column c = search needs
@@ -29,7 +29,7 @@ pub meet-rest-spec : {M : Type 1} → statement M
 meet-rest-spec =
     tie.close
     (tie.spec
-    tab-requires
+    look-requires
     add-column
     column-requires
     pair-part-requires

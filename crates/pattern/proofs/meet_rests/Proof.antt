@@ -6,12 +6,13 @@ use Rattle.plain.specs.Turns.{Turned}
 use Prim.Native.Nat.{_≤_, _-_}
 use lib.ListN.{length}
 use mathlib.Core.Path.{_≡_}
+use Rattle.cells.specs.Rows.{Rows}
 use Rattle.cells.specs.View.{Room}
 use Rattle.pattern.proofs.meet_rests.Statement.{statement}
 use Rattle.pattern.proofs.meet_rests.Tie as tie
 
 abbrev Inv-loop : tie.InvT-loop
-Inv-loop lists₀ s₀ n j₀ lists s j = Turned (metRest n) (heap lists₀ s₀) j (heap lists s) × (length lists ≡ length lists₀) × (length s ≡ length s₀) × Room n s × (j ≤ n)
+Inv-loop lists₀ s₀ n j₀ lists s j = Turned (metRest n) (heap lists₀ s₀) j (heap lists s) × (length lists ≡ length lists₀) × (length s ≡ length s₀) × Room n s × Rows n lists × (j ≤ n)
 
 abbrev μ-loop : tie.MeasureT-loop
 μ-loop lists₀ s₀ n j₀ lists s j = n - j

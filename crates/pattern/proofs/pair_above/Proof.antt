@@ -3,6 +3,7 @@ use borrow.Author.Needs.{needs}
 use Prim.Native.Nat.{_<_, _-_, _^_}
 use lib.ListN.{length}
 use mathlib.Core.Path.{_≡_}
+use Rattle.cells.specs.Rows.{Rows}
 use Rattle.cells.specs.View.{Room}
 use Rattle.pattern.specs.Model.{heap, pairedAt, pairedPart}
 use Rattle.pattern.proofs.Reaching.{Until, until-none, until-more, until-stop, until-end}
@@ -17,13 +18,13 @@ use Rattle.pattern.proofs.add_pair.Reads as add-pair-reads
 use Rattle.pattern.proofs.pass_row.Reads as pass-row-reads
 
 abbrev Inv-loop : tie.InvT-loop
-Inv-loop lists₀ s₀ n j k from to p₀ lists s p = Until n k from to (pairedAt n j) (heap lists₀ s₀) (heap lists s) p × (length lists ≡ length lists₀) × (length s ≡ length s₀) × Room n s × (p < 2 ^ 63)
+Inv-loop lists₀ s₀ n j k from to p₀ lists s p = Until n k from to (pairedAt n j) (heap lists₀ s₀) (heap lists s) p × (length lists ≡ length lists₀) × (length s ≡ length s₀) × Room n s × Rows n lists × (p < 2 ^ 63)
 
 abbrev μ-loop : tie.MeasureT-loop
 μ-loop lists₀ s₀ n j k from to p₀ lists s p = to - p
 
 loop-holds : tie.Need-loop-holds Inv-loop μ-loop
-loop-holds c = (until-none _ _ _ _ _ (paired-at-rows _ _) _, search needs, search needs, search needs, search needs)
+loop-holds c = (until-none _ _ _ _ _ (paired-at-rows _ _) _, search needs, search needs, search needs, search needs, search needs)
 
 entry-requires : tie.Need-entry-requires Inv-loop μ-loop
 entry-requires c κs = search needs
@@ -41,7 +42,7 @@ returns : tie.Need-returns Inv-loop μ-loop
 unfolding pairedPart
 returns c =
     let z = until-stop _ _ _ _ _ (paired-at-rows _ _) _ _ _ (c .before .before .before .before .before .loop .inv .0) _ (search needs) (c .before .before .entry .ensures .0) (search needs) _ (c .pass-row .ensures .0) in
-    (z .0, z .1, search needs, search needs)
+    (z .0, z .1, search needs, search needs, search needs)
 
 add-pair-requires : tie.Need-add-pair-requires Inv-loop μ-loop
 add-pair-requires c κs = search needs
@@ -55,7 +56,8 @@ loop-less c = search needs
 loop-again : tie.Need-loop-again Inv-loop μ-loop
 loop-again c = (
   until-more _ _ _ _ _ (paired-at-rows _ _) _ _ _ (c .before .before .before .before .before .before .before .before .before .loop .inv .0) _ _ (search needs) (c .before .before .before .before .before .before .entry .ensures .0) (search needs)
-      (pair-at-step _ _ _ _ _ _ _ _ (c .before .before .before .before .before .before .entry .ensures .0) (c .before .before .add-pair .ensures .0)),
+      (pair-at-step _ _ _ _ _ _ _ _ (c .before .before .before .before .before .before .entry .ensures .0) (c .before .before .add-pair .ensures .0) (search needs)),
+  search needs,
   search needs,
   search needs,
   search needs,
@@ -72,7 +74,7 @@ returns-2 : tie.Need-returns-2 Inv-loop μ-loop
 unfolding pairedPart
 returns-2 c =
     let z = until-end _ _ _ _ _ (paired-at-rows _ _) _ _ _ (c .before .loop .inv .0) (search needs) in
-    (z .0, z .1, search needs, search needs)
+    (z .0, z .1, search needs, search needs, search needs)
 
 pub pair-above-spec : {M : Type 1} → statement M
 pair-above-spec =

@@ -6,13 +6,14 @@ use Rattle.plain.specs.Turns.{Turned}
 use Prim.Native.Nat.{_≤_, _-_, _+_}
 use lib.ListN.{length}
 use mathlib.Core.Path.{_≡_}
+use Rattle.cells.specs.Rows.{Rows}
 use Rattle.cells.specs.View.{Room}
 use Rattle.pattern.proofs.Steps.{finish-part}
 use Rattle.pattern.proofs.pair_part.Statement.{statement}
 use Rattle.pattern.proofs.pair_part.Tie as tie
 
 abbrev Inv-loop : tie.InvT-loop
-Inv-loop lists₀ s₀ n j from to count t₀ lists s t = Turned (λ u. pairedAt n j (from + u)) (heap lists₀ s₀) t (heap lists s) × (length lists ≡ length lists₀) × (length s ≡ length s₀) × Room n s × (t ≤ count) × (count ≡ to - from)
+Inv-loop lists₀ s₀ n j from to count t₀ lists s t = Turned (λ u. pairedAt n j (from + u)) (heap lists₀ s₀) t (heap lists s) × (length lists ≡ length lists₀) × (length s ≡ length s₀) × Room n s × Rows n lists × (t ≤ count) × (count ≡ to - from)
 
 abbrev μ-loop : tie.MeasureT-loop
 μ-loop lists₀ s₀ n j from to count t₀ lists s t = count - t

@@ -6,12 +6,12 @@ use Rattle.pattern.proofs.pass.Tie as tie
 use Rattle.pattern.proofs.pass.Reads as reads
 use Rattle.pattern.proofs.pass.Lts as lts
 use Rattle.cells.proofs.column.Reads as column-reads
-use Rattle.cells.proofs.put.Reads as put-reads
-use Rattle.cells.proofs.tab.Reads as tab-reads
+use Rattle.cells.proofs.note.Reads as note-reads
+use Rattle.cells.proofs.look.Reads as look-reads
 use Rattle.pattern.proofs.pair_above.Reads as pair-above-reads
 
-tab-requires : tie.Need-tab-requires
-tab-requires c κs = search needs
+look-requires : tie.Need-look-requires
+look-requires c κs = search needs
 
 add-column : tie.Need-add-column
 add-column c = search needs
@@ -22,8 +22,8 @@ column-requires c κs = search needs
 pair-above-requires : tie.Need-pair-above-requires
 pair-above-requires c κs = search needs
 
-put-requires : tie.Need-put-requires
-put-requires c κs = search needs
+note-requires : tie.Need-note-requires
+note-requires c κs = search needs
 
 same-length : tie.Need-same-length
 same-length c = search needs
@@ -38,11 +38,11 @@ pub pass-spec : {M : Type 1} → statement M
 pass-spec =
     tie.close
     (tie.spec
-    tab-requires
+    look-requires
     add-column
     column-requires
     pair-above-requires
-    put-requires
+    note-requires
     same-length
     same-length-2
     returns)
