@@ -20,7 +20,7 @@ use Rattle.cells.specs.Links.{parent}
 use Rattle.cells.proofs.Fields.{room-up}
 use Rattle.cells.proofs.Slices.{same?}
 use Rattle.cells.proofs.Laws.{mem, room-yes}
-use Rattle.chain.specs.Model.{linkedBefore, pushed}
+use Rattle.chain.specs.Model.{headed, pushed}
 use Rattle.chain.specs.Chained.{links, Node, Seg, Chained}
 use Rattle.chain.proofs.Frame.{Same, all-but, seg-frame, fresh-degree}
 
@@ -30,43 +30,43 @@ module _ (n : ℕ) (s : List ℤ) (d i : ℕ) where
   -- every field but these four
   pub pushed-other : (f j : ℕ) → eqb HEAD f ≡ false → eqb NEXT f ≡ false → eqb LAST f ≡ false → eqb DEGREE f ≡ false
       → rd n f (pushed n s d i) j ≡ rd n f s j
-  unfolding pushed linkedBefore
+  unfolding pushed headed
   pushed-other f j a b c e = simp (mem, a, b, c, e)
 
   pub pushed-parent : (j : ℕ) → parent n (pushed n s d i) j ≡ parent n s j
-  unfolding pushed linkedBefore
+  unfolding pushed headed
   pushed-parent j = simp mem
 
   pub pushed-room : Room n s → Room n (pushed n s d i)
-  unfolding pushed linkedBefore
-  pushed-room h = room-up n HEAD _ d i (room-up n DEGREE _ i d (room-up n LAST _ i n (room-up n NEXT _ i _ (room-up n LAST s _ i h))))
+  unfolding pushed headed
+  pushed-room h = room-up n LAST _ _ i (room-up n HEAD _ d i (room-up n DEGREE _ i d (room-up n LAST _ i n (room-up n NEXT s i _ h))))
 
   pub head-other : (e : ℕ) → d ≢ e → rd n HEAD (pushed n s d i) e ≡ rd n HEAD s e
-  unfolding pushed linkedBefore
+  unfolding pushed headed
   head-other e h = simp mem
 
   pub next-other : (j : ℕ) → i ≢ j → rd n NEXT (pushed n s d i) j ≡ rd n NEXT s j
-  unfolding pushed linkedBefore
+  unfolding pushed headed
   next-other j h = simp mem
 
   -- the degrees of all rows but i
   pub pushed-degree-other : (j : ℕ) → i ≢ j → rd n DEGREE (pushed n s d i) j ≡ rd n DEGREE s j
-  unfolding pushed linkedBefore
+  unfolding pushed headed
   pushed-degree-other j h = simp mem
 
   pub others : (j : ℕ) → j ≢ i → j ≢ rd n HEAD s d → Same (links n s) (links n (pushed n s d i)) j
-  unfolding pushed linkedBefore
+  unfolding pushed headed
   others j u v = record { next = simp mem; back = simp mem; deg = simp mem }
 
 module _ (n : ℕ) (s : List ℤ) (d i : ℕ) (room : Room n s) (hi : i < n) where
   -- i has the degree of its list
   pub pushed-degree : rd n DEGREE (pushed n s d i) i ≡ d
-  unfolding pushed linkedBefore
+  unfolding pushed headed
   pushed-degree = simp (mem, room-yes n s room, lt-ltb i n hi)
 
-  node : Node n (links n (pushed n s d i)) d n i i
-  unfolding pushed linkedBefore
-  node =
+  node : rd n HEAD s d ≢ i → Node n (links n (pushed n s d i)) d n i i
+  unfolding pushed headed
+  node new =
       record {
         here = refl;
         small = hi;
@@ -75,15 +75,15 @@ module _ (n : ℕ) (s : List ℤ) (d i : ℕ) (room : Room n s) (hi : i < n) whe
       }
 
   next-same : rd n NEXT (pushed n s d i) i ≡ rd n HEAD s d
-  unfolding pushed linkedBefore
+  unfolding pushed headed
   next-same = simp (mem, room-yes n s room, lt-ltb i n hi)
 
   back-front : (h : ℕ) → rd n HEAD s d ≡ h → h < n → i ≢ h → rd n LAST (pushed n s d i) h ≡ i
-  unfolding pushed linkedBefore
+  unfolding pushed headed
   back-front h e hh hn = rw e (simp (mem, room-yes n s room, lt-ltb h n hh))
 
 head-same : (n : ℕ) (s : List ℤ) (d i : ℕ) → Room n s → d < n → rd n HEAD (pushed n s d i) d ≡ i
-unfolding pushed linkedBefore
+unfolding pushed headed
 head-same n s d i room hd = simp (mem, room-yes n s room, lt-ltb d n hd)
 
 -- ---- the lists
@@ -113,11 +113,16 @@ module _ (n : ℕ) (s : List ℤ) (d i : ℕ) (room : Room n s) (hd : d < n) (hi
     front e q [] a = inl (omega (arith, a))
     front e q (k ∷ l) a = inr (λ b. q (sym b ∙ ap (rd n DEGREE s) (a .0 .here) ∙ a .0 .deg))
 
+    -- and not i
+    front-other : (l : List ℕ) → Seg n (links n s) d n (rd n HEAD s d) l → member i l ≡ false → rd n HEAD s d ≢ i
+    front-other [] a u e = absurd (omega (arith, a))
+    front-other (k ∷ l) a u e = not-here i k l u (sym e ∙ a .0 .here)
+
     chain-at : (e : ℕ) → e < n → (e ≡ d) ⊎ (e ≢ d) → Seg n (links n (pushed n s d i)) e n (rd n HEAD (pushed n s d i) e) (upd L d (i ∷ L d) e)
     chain-at e he (inl q) =
         subst⁻¹ (λ (x : ℕ). Seg n (links n (pushed n s d i)) x n (rd n HEAD (pushed n s d i) x) (upd L d (i ∷ L d) x)) q
         (rw (upd-same L d (i ∷ L d), head-same n s d i room hd) (
-          node n s d i room hi,
+          node n s d i room hi (front-other (L d) (h .chain d hd) (fresh d hd)),
           rw (next-same n s d i room hi) (tail (L d) (h .chain d hd) (fresh d hd) (h .distinct d hd)),
         ))
     chain-at e he (inr q) =

@@ -9,7 +9,7 @@ use Rattle.plain.specs.Turns.{times, Turned}
 use Rattle.plain.proofs.Turns.{finish}
 use Rattle.cells.specs.Layout.{LEN, DEGREE, NEXT, LAST, HEAD}
 use Rattle.cells.specs.View.{rd, up}
-use Rattle.chain.specs.Model.{relinked, removed, linkedBefore, pushed, emptied, enlistedOne, enlistedAll}
+use Rattle.chain.specs.Model.{relinked, removed, headed, pushed, emptied, enlistedOne, enlistedAll}
 
 module _ (n : ℕ) (s : List ℤ) (i b a : ℕ) where
   pub relinked-mid : b < n → relinked n s i b a ≡ up n NEXT s b a
@@ -31,14 +31,13 @@ pub remove-step : (n : ℕ) (s : List ℤ) (i b a : ℕ) (t r : List ℤ) → b 
 unfolding removed
 remove-step n s i b a t r hb ha ht hr = rw (← hb, ← ha, ← ht) hr
 
-pub link-step : (n : ℕ) (s : List ℤ) (h i : ℕ) (t u r : List ℤ) → t ≡ up n LAST s h i → u ≡ up n NEXT t i h → r ≡ up n LAST u i n → r ≡ linkedBefore n s h i
-unfolding linkedBefore
-link-step n s h i t u r ht hu hr = rw (← ht, ← hu) hr
+pub head-step : (n : ℕ) (s : List ℤ) (d h i : ℕ) (t u w r : List ℤ) → t ≡ up n NEXT s i h → u ≡ up n LAST t i n → w ≡ up n DEGREE u i d → r ≡ up n HEAD w d i → r ≡ headed n s d h i
+unfolding headed
+head-step n s d h i t u w r ht hu hw hr = rw (← ht, ← hu, ← hw) hr
 
-pub push-step : (n : ℕ) (s : List ℤ) (d i h : ℕ) (t u r : List ℤ) → h ≡ rd n HEAD s d → t ≡ linkedBefore n s h i → u ≡ up n DEGREE t i d
-    → r ≡ up n HEAD u d i → r ≡ pushed n s d i
+pub push-step : (n : ℕ) (s : List ℤ) (d i h : ℕ) (t r : List ℤ) → h ≡ rd n HEAD s d → t ≡ headed n s d h i → r ≡ up n LAST t h i → r ≡ pushed n s d i
 unfolding pushed
-push-step n s d i h t u r hh ht hu hr = rw (← hh, ← ht, ← hu) hr
+push-step n s d i h t r hh ht hr = rw (← hh, ← ht) hr
 
 -- ---- the start
 

@@ -19,13 +19,13 @@ relinked n s i b a = cond (ltb b n) (up n NEXT s b a) (up n HEAD s (rd n DEGREE 
 unfoldable pub removed : ℕ → List ℤ → ℕ → List ℤ
 removed n s i = relinked n (up n LAST s (rd n NEXT s i) (rd n LAST s i)) i (rd n LAST s i) (rd n NEXT s i)
 
--- row i stands before row h, and nothing before it
-unfoldable pub linkedBefore : ℕ → List ℤ → ℕ → ℕ → List ℤ
-linkedBefore n s h i = up n LAST (up n NEXT (up n LAST s h i) i h) i n
+-- row i is the front of list d, before row h
+unfoldable pub headed : ℕ → List ℤ → ℕ → ℕ → ℕ → List ℤ
+headed n s d h i = up n HEAD (up n DEGREE (up n LAST (up n NEXT s i h) i n) i d) d i
 
 -- row i goes to the front of list d
 unfoldable pub pushed : ℕ → List ℤ → ℕ → ℕ → List ℤ
-pushed n s d i = up n HEAD (up n DEGREE (linkedBefore n s (rd n HEAD s d) i) i d) d i
+pushed n s d i = up n LAST (headed n s d (rd n HEAD s d) i) (rd n HEAD s d) i
 
 -- ---- the start
 

@@ -3,7 +3,7 @@
 ghost use mathlib.Core.Path.{_≡_};
 ghost use Prim.Native.Nat.{_<_, _^_};
 ghost use Rattle.cells.specs.View.{Room};
-ghost use Rattle.chain.specs.Model.{relinked, removed, linkedBefore, pushed, emptied, enlistedOne, enlistedAll};
+ghost use Rattle.chain.specs.Model.{relinked, removed, headed, pushed, emptied, enlistedOne, enlistedAll};
 ghost use Rattle.chain.specs.First.{First};
 
 // A row and the degree of the list that it is the front of; the row is n where there is none.
@@ -36,25 +36,25 @@ pub fn take_out(s: &mut [i64], n: usize, i: usize)
     relink(s, n, i, before, after);
 }
 
-// Row `i` stands before row `front`, and nothing before it.
-fn link_before(s: &mut [i64], n: usize, front: usize, i: usize)
-    requires { ⌜ Room n (now s) × (front < 2 ^ 63) × (i < n) ⌝ }
-    ensures { λ _. ⌜ (now (s .exit) ≡ linkedBefore n (now (s .entry)) front i) × Room n (now (s .exit)) ⌝ }
+// Row `i` becomes the front of the list of degree `d`, which becomes its degree, before the row `front`.
+fn head_list(s: &mut [i64], n: usize, d: usize, front: usize, i: usize)
+    requires { ⌜ Room n (now s) × (d < n) × (front < 2 ^ 63) × (i < n) ⌝ }
+    ensures { λ _. ⌜ (now (s .exit) ≡ headed n (now (s .entry)) d front i) × Room n (now (s .exit)) ⌝ }
 {
-    cells::up(s, n, cells::LAST, front, i);
     cells::set(s, n, cells::NEXT, i, front);
     cells::set(s, n, cells::LAST, i, n);
+    cells::set(s, n, cells::DEGREE, i, d);
+    cells::note(s, n, cells::HEAD, d, i);
 }
 
-// Puts row `i` to the front of the list of degree `d`, which becomes its degree.
+// Puts row `i` to the front of the list of degree `d`. What stood there is told last, since there may be nothing.
 pub fn put_front(s: &mut [i64], n: usize, d: usize, i: usize)
     requires { ⌜ Room n (now s) × (d < n) × (i < n) ⌝ }
     ensures { λ _. ⌜ (now (s .exit) ≡ pushed n (now (s .entry)) d i) × Room n (now (s .exit)) ⌝ }
 {
     let front = cells::look(s, n, cells::HEAD, d);
-    link_before(s, n, front, i);
-    cells::set(s, n, cells::DEGREE, i, d);
-    cells::note(s, n, cells::HEAD, d, i);
+    head_list(s, n, d, front, i);
+    cells::up(s, n, cells::LAST, front, i);
 }
 
 // The front of the first list at or after the degree `least` that has one, and its degree.
