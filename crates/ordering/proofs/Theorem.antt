@@ -4,11 +4,10 @@ use Prim.Native.Nat.{ℕ, _+_, _*_, _<_, _≤_, _^_, min}
 use native.Mathlib.Omega.{arith}
 use mathlib.Core.Path.{_≡_, ap, _∙_}
 use mathlib.Core.Bool.{Bool, cond}
-use mathlib.Core.List.{List, [], map}
+use mathlib.Core.List.{List, map}
 use lib.Dec.{eqb}
 use lib.IntN.{ℤ, pos}
-use lib.ListN.{length, getD}
-use Rattle.plain.specs.Members.{In}
+use lib.ListN.{length}
 use Rattle.definition.specs.Answers.{Problem, ruleFor}
 use Rattle.definition.specs.Ordering.{graphOf, limitOf, keyFor, finalOf, plain, plainFrom}
 use Rattle.definition.specs.Outcome.{collectionCount, seven}

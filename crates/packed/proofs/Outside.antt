@@ -40,7 +40,7 @@ use Rattle.packed.proofs.Picked.{after-is, picked-new}
 use Rattle.packed.proofs.Readings.{holds-all}
 use Rattle.packed.proofs.Settling.{Ready, Settled, settled-there}
 use Rattle.packed.proofs.Spaces.{space-dropped, space-renamed, space-same}
-use Rattle.packed.proofs.Sums.{sum-change, sum-same}
+use Rattle.packed.proofs.Sums.{sum-change}
 use Rattle.packed.proofs.Taking.{Holds, wants}
 use Rattle.packed.specs.declared.Tray.{Tray}
 
@@ -83,9 +83,6 @@ module _ (n : ℕ) (X : ℕ → List ℕ) (l s : List ℤ) (made base lim : ℕ)
   -- the lists hold no more than lies below the limit
   pub all-low : sumTo n (λ i. length (X i)) ≤ lim
   all-low = let c = collected n X lim under l s base made g in omega (arith, c .total, c .before)
-
-  pub lengths-held : sumTo n (rd n LEN s) ≡ sumTo n (λ i. length (X i))
-  lengths-held = sum-same n (λ i. length (X i)) (rd n LEN s) (λ i a. len-of l (places n s) lim X (g .lists) i)
 
   module _ (me : ℕ) (hm : me < n) (es vs : List ℕ) (parts : X me ≡ es ++ vs) (elen : rd n ELEN s me ≡ length es)
       (once : Distinct es) (away : member me es ≡ false) (low : (e : ℕ) → In e es → e < n) where

@@ -57,16 +57,16 @@ module _ (n : ℕ) (quota : ℕ) (s : List ℤ) (room : Room n s) where
   unfolding tookPart
   holds-part l p k y e fits q r m b h = rw (clipped-part (length l) p k fits, times-fold (took n quota) (at l) p k m, e) (holds-list y q r m b h)
 
-wants-absorbed : (n me x : ℕ) (s : List ℤ) → wants n (absorbed n me x s) ≡ wants n s
-wants-absorbed n me x s = fun-ext (λ v. ap (λ (y : ℕ). ltb 0 y) (absorbed-field n me s x WANT v refl refl refl))
-
-pub wants-dropped : (n me : ℕ) (es : List ℕ) (s s′ : List ℤ) → Dropped n me es s s′ → wants n s′ ≡ wants n s
-wants-dropped n me es s s′ h = fun-ext (λ v. ap (λ (y : ℕ). ltb 0 y) (h .fields WANT v refl refl refl))
+wants-same : (n : ℕ) (s s′ : List ℤ) → ((v : ℕ) → rd n WANT s′ v ≡ rd n WANT s v) → wants n s′ ≡ wants n s
+wants-same n s s′ h = fun-ext (λ v. ap (λ (y : ℕ). ltb 0 y) (h v))
 
 module _ (n me quota : ℕ) (l : List ℤ) (X : ℕ → List ℕ) where
   -- the list of e is where the scratch says
   abbrev Listed : List ℤ → ℕ → Type 0
   Listed s e = (entries (at l) (rd n PE s e) (rd n LEN s e) ≡ X e) × (0 < rd n LEN s e → rd n PE s e + rd n LEN s e ≤ length l)
+
+  wants-absorbed : (s : List ℤ) (x : ℕ) → wants n (absorbed n me x s) ≡ wants n s
+  wants-absorbed s x = wants-same n s (absorbed n me x s) (λ v. absorbed-field n me s x WANT v refl refl refl)
 
   listed-absorbed : (s : List ℤ) (x e : ℕ) → e ≢ x → Listed s e → Listed (absorbed n me x s) e
   listed-absorbed s x e d h = rw (absorbed-other n me s x PE e d, absorbed-other n me s x LEN e d) h
@@ -82,7 +82,7 @@ module _ (n me quota : ℕ) (l : List ℤ) (X : ℕ → List ℕ) where
       let h₁ : Holds n quota s₁ q (suc r) (taking (m₁ .mem) (passedBy (m₁ .tray))) = holds-passed n quota s₁ room₁ q r m₁ (omega arith) (holds-absorbed n quota s room me e low q r m h) in
       rw (h .fields PE e refl refl refl refl refl, h .fields LEN e refl refl refl refl refl)
       (subst (λ (p : ℕ → Bool). Holds n quota s₁ (foldl (pickOne p) q (readList (suc r) (X e))) (suc r + length (X e)) (tookPart n quota l (rd n PE s e) (rd n LEN s e) (taking (m₁ .mem) (passedBy (m₁ .tray)))))
-      (wants-absorbed n me e s) (holds-part n quota s₁ room₁ l (rd n PE s e) (rd n LEN s e) (X e) (li .0) (li .1) q (suc r) (taking (m₁ .mem) (passedBy (m₁ .tray))) b h₁))
+      (wants-absorbed s e) (holds-part n quota s₁ room₁ l (rd n PE s e) (rd n LEN s e) (X e) (li .0) (li .1) q (suc r) (taking (m₁ .mem) (passedBy (m₁ .tray))) b h₁))
 
   holds-elements : (es : List ℕ) (s : List ℤ) → Room n s → Distinct es → ((e : ℕ) → In e es → e < n) → ((e : ℕ) → In e es → Listed s e) → (q : List Read) (r : ℕ) (m : Taking)
       → afterParts X r es < 2 ^ 63 → Holds n quota s q r m
@@ -96,7 +96,7 @@ module _ (n me quota : ℕ) (l : List ℤ) (X : ℕ → List ℕ) where
       let low-e = low e (member-here e es) in
       rw (foldl-append (pickOne (wants n s)) q (readList (suc r) (X e)) (readParts X (suc r + length (X e)) es))
       (subst (λ (p : ℕ → Bool). Holds n quota (absorbFold n me (absorbed n me e s) es) (foldl (pickOne p) q₁ (readParts X (suc r + length (X e)) es)) (afterParts X (suc r + length (X e)) es) (foldl (λ a x. tookElement n me quota l x a) m₁ es))
-      (wants-absorbed n me e s)
+      (wants-absorbed s e)
       (holds-elements es (absorbed n me e s) (absorbed-room n me s e room) (once .1) (λ x i. low x (member-there x e es i))
       (λ x i. listed-absorbed s e x (λ y. apart e x es (once .0) i (sym y)) (li x (member-there x e es i))) q₁ (suc r + length (X e)) m₁ b
       (holds-element s room e low-e (li e (member-here e es)) q r m (omega arith) h)))
@@ -166,5 +166,5 @@ module _ (n me quota : ℕ) (l : List ℤ) (X : ℕ → List ℕ) where
         (holds-elements es s room once low (λ e i. (g .lists e, inside-space l (places n s) lim X g e)) [] 0 m₀ (omega arith) (holds-none n quota s room)) in
         rw (foldl-append (pickOne (wants n s)) [] (readParts X 0 es) (readList (afterParts X 0 es) vs))
         (subst (λ (p : ℕ → Bool). Holds n quota s′ (foldl (pickOne p) q₁ (readList (afterParts X 0 es) vs)) (afterParts X 0 es + length vs) (tookPart n quota l (ownPart n (m₁ .mem) me .from) (ownPart n (m₁ .mem) me .len) m₁))
-        (wants-dropped n me es s s′ dropped)
+        (wants-same n s s′ (λ v. dropped .fields WANT v refl refl refl))
         (holds-part n quota s′ (dropped .room) l (ownPart n (m₁ .mem) me .from) (ownPart n (m₁ .mem) me .len) vs (own-part q₁ (afterParts X 0 es) m₁ h₁ b) (own-inside q₁ (afterParts X 0 es) m₁ h₁ b) q₁ (afterParts X 0 es) m₁ c h₁))

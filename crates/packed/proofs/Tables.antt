@@ -25,6 +25,7 @@ use Rattle.packed.specs.Gather.{Cleared, cleared, collectedRest, madeRoo
 use Rattle.packed.specs.Model.{Heap, heap, movedDown, movedLow, movedNew, movedNext, movedOne, packedAll, packedLow}
 use Rattle.packed.specs.Places.{due, places}
 use Rattle.packed.specs.Tray.{Tabled, absorbed, counted, wanted}
+use Rattle.packed.proofs.Dropping.{absorbed-field}
 use Rattle.packed.proofs.Sums.{sum-change, sum-same}
 use Rattle.packed.specs.declared.Ends.{Ends}
 use Rattle.packed.specs.declared.Tray.{Tray}
@@ -109,8 +110,10 @@ tabled-row n x quota reads s t a b r ha hb hr h room hx hc =
 
 -- an element is taken up
 pub tabled-absorbed : (n me e : ℕ) (s a : List ℤ) (k : ℕ) → a ≡ absorbed n me e s → Tabled n s k → Tabled n a k
-unfolding absorbed
-tabled-absorbed n me e s a k ha h = rw ha (tabled-same n s (absorbed n me e s) k (λ t. simp mem) (omega (arith, wanted-same n s (absorbed n me e s) (λ i. simp mem))) h)
+tabled-absorbed n me e s a k ha h =
+    rw ha
+    (tabled-same n s (absorbed n me e s) k (λ t. absorbed-field n me s e TMP t refl refl refl)
+    (omega (arith, wanted-same n s (absorbed n me e s) (λ i. absorbed-field n me s e WANT i refl refl refl))) h)
 
 module _ (n c i : ℕ) (hl : eqb LEN c ≡ false) (hp : eqb PE c ≡ false) where
   -- cell i of field c is as in s

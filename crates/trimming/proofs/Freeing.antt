@@ -1,23 +1,22 @@
 -- Elements that a new one takes up: the memory without their lists.
 -- Assumes nothing.
 use Prim.Native.Nat.{_<_, ℕ}
-use mathlib.Core.Bool.{false, true, cond}
+use mathlib.Core.Bool.{false, true}
 use mathlib.Core.List.{List, [], _++_, _∷_}
 use mathlib.Core.Logic.{_≢_, _⊎_, inl, inr, ⊎-elim}
 use mathlib.Core.Path.{_∙_, _≡_, ap, refl, subst⁻¹, sym}
-use borrow.Author.Tests.{lt-ltb}
-use lib.Dec.{eqb, ltb}
+use lib.Dec.{eqb}
 use lib.IntN.{ℤ}
 use Rattle.plain.proofs.Entries.{upd-other, upd-same}
 use Rattle.plain.proofs.Logic.{clash, either}
 use Rattle.plain.proofs.Members.{append-either, member-either, member-first, member-left, member-nil, member-right, not-in}
 use Rattle.plain.specs.Lists.{member}
 use Rattle.plain.specs.Turns.{upd}
-use Rattle.cells.proofs.Laws.{mem, rd-hang-field, rd-up-field, room-yes}
 use Rattle.cells.proofs.Slices.{same?}
 use Rattle.cells.specs.Layout.{LEN, W}
-use Rattle.cells.specs.Links.{hang, named, parent}
-use Rattle.cells.specs.View.{rd, roomy, up}
+use Rattle.cells.specs.Links.{named, parent}
+use Rattle.cells.specs.View.{rd}
+use Rattle.packed.proofs.Dropping.{absorbed-field, absorbed-len, absorbed-named, absorbed-other, absorbed-parent, absorbed-w, except}
 use Rattle.packed.proofs.Spaces.{space-absorbed, space-renamed}
 use Rattle.packed.specs.Tray.{absorbed}
 use Rattle.packed.specs.Places.{Space}
@@ -43,7 +42,7 @@ snoc-known e xs k x =
 -- ---- elements that are gone
 
 abbrev pub without : List ℕ → (ℕ → List ℕ) → ℕ → List ℕ
-without gone X j = cond (member j gone) [] (X j)
+without gone X = except X gone []
 
 -- s′ is s, but that the elements of `gone` are children of me
 pub record Freed (n me : ℕ) (X : ℕ → List ℕ) (l s : List ℤ) (cnt base lim : ℕ) (gone : List ℕ) (s′ : List ℤ) : Type 0 where
@@ -84,12 +83,6 @@ module _ (n me : ℕ) (X : ℕ → List ℕ) (l s : List ℤ) (cnt base lim : �
 
     -- one more
     module _ (he : e < n) where
-      abbrev a : List ℤ
-      a = up n W s′ e 0
-
-      abbrev b : List ℤ
-      b = up n LEN a e 0
-
       lists-more : (j : ℕ) → (j ≡ e) ⊎ (j ≢ e) → upd (without gone X) e [] j ≡ without (gone ++ (e ∷ [])) X j
       lists-more j (inl u) =
           subst⁻¹ (λ (y : ℕ). upd (without gone X) e [] y ≡ without (gone ++ (e ∷ [])) X y) u
@@ -100,28 +93,11 @@ module _ (n me : ℕ) (X : ℕ → List ℕ) (l s : List ℤ) (cnt base lim : �
           (λ k. rw (k, member-left j gone (e ∷ []) k))
           (λ k. rw (k, not-in j (gone ++ (e ∷ [])) (λ c. ⊎-elim (λ d. absurd (u d)) (λ d. clash (member j gone) d k) (snoc-in j e gone c))))
 
-      room : roomy n s′ ≡ true
-      room = room-yes n s′ (h .space .room)
+      kept-field : (f x : ℕ) → e ≢ x → rd n f (absorbed n me e s′) x ≡ rd n f s′ x
+      kept-field f x d = absorbed-other n me s′ e f x (λ y. d (sym y))
 
-      inside : ltb e n ≡ true
-      inside = lt-ltb e n he
-
-      -- e itself
-      mark-here : rd n W (hang n b e (named n me)) e ≡ 0
-      mark-here = simp (mem, room, inside)
-
-      len-here : rd n LEN (hang n b e (named n me)) e ≡ 0
-      len-here = simp (mem, room, inside)
-
-      link-here : parent n (hang n b e (named n me)) e ≡ named n me
-      link-here = simp (mem, room, inside)
-
-      -- the others
-      kept-field : (f x : ℕ) → e ≢ x → rd n f (hang n b e (named n me)) x ≡ rd n f s′ x
-      kept-field f x d = simp mem
-
-      kept-link : (x : ℕ) → e ≢ x → parent n (hang n b e (named n me)) x ≡ parent n s′ x
-      kept-link x d = simp mem
+      kept-link : (x : ℕ) → e ≢ x → parent n (absorbed n me e s′) x ≡ parent n s′ x
+      kept-link x d = absorbed-parent n me s′ e x (λ y. d (sym y))
 
       by : {A : Type 0} (F : ℕ → A) (c : A) (x : ℕ) → F e ≡ c → (e ≢ x → member x gone ≡ true → F x ≡ c) → member x (gone ++ (e ∷ [])) ≡ true → F x ≡ c
       by F c x u v k =
@@ -130,15 +106,16 @@ module _ (n me : ℕ) (X : ℕ → List ℕ) (l s : List ℤ) (cnt base lim : �
           (snoc-in x e gone k)
 
       pub freed-more : Freed n me X l s cnt base lim (gone ++ (e ∷ [])) (absorbed n me e s′)
-      unfolding absorbed
       freed-more =
+          let s₁ = absorbed n me e s′ in
+          let room = h .space .room in
           record {
-            space = space-renamed n (upd (without gone X) e []) l (absorbed n me e s′) cnt base lim
+            space = space-renamed n (upd (without gone X) e []) l s₁ cnt base lim
                 (space-absorbed n (without gone X) l s′ cnt base lim (h .space) me e he) (without (gone ++ (e ∷ [])) X) (λ j. lists-more j (same? j e));
-            fields = λ f x u v w. rd-hang-field n f b e (named n me) x u ∙ rd-up-field n LEN f a e 0 x v ∙ rd-up-field n W f s′ e 0 x w ∙ h .fields f x u v w;
+            fields = λ f x u v w. absorbed-field n me s′ e f x v w u ∙ h .fields f x u v w;
             others = λ f x u. let o = snoc-out x e gone u in kept-field f x (o .1) ∙ h .others f x (o .0);
             kin = λ x u. let o = snoc-out x e gone u in kept-link x (o .1) ∙ h .kin x (o .0);
-            marks = λ x u. by (rd n W (hang n b e (named n me))) 0 x mark-here (λ d k. kept-field W x d ∙ h .marks x k) u;
-            lens = λ x u. by (rd n LEN (hang n b e (named n me))) 0 x len-here (λ d k. kept-field LEN x d ∙ h .lens x k) u;
-            links = λ x u. by (parent n (hang n b e (named n me))) (named n me) x link-here (λ d k. kept-link x d ∙ h .links x k) u;
+            marks = λ x u. by (rd n W s₁) 0 x (absorbed-w n me s′ e room he) (λ d k. kept-field W x d ∙ h .marks x k) u;
+            lens = λ x u. by (rd n LEN s₁) 0 x (absorbed-len n me s′ e room he) (λ d k. kept-field LEN x d ∙ h .lens x k) u;
+            links = λ x u. by (parent n s₁) (named n me) x (absorbed-named n me s′ e room he) (λ d k. kept-link x d ∙ h .links x k) u;
           }
