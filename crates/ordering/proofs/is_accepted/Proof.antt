@@ -9,7 +9,7 @@ answer-number-requires : tie.Need-answer-number-requires
 answer-number-requires c κs = search needs
 
 returns : tie.Need-returns
-returns c = search (needs, accepts-step)
+returns c = accepts-step (c .before .args .a) _ (c .answer-number .ensures)
 
 pub is-accepted-spec : {M : Type 1} → statement M
 is-accepted-spec = tie.close (tie.spec answer-number-requires returns)
