@@ -11,12 +11,12 @@ fn bad_pointers(c: &Case) -> bool {
     c.pointers.len() != n + 1
         || c.pointers[0] != 0
         || (0..n).any(|k| c.pointers[k + 1] < c.pointers[k])
-        || c.pointers[n] > 2_000_000
+        || c.pointers[n] > 20_000_000
         || c.pointers[n] as usize > c.rows.len()
 }
 
 pub fn answer(c: &Case) -> i32 {
-    if c.n < 0 || c.n > 100_000 {
+    if c.n < 0 || c.n > 2_000_000 {
         return 2;
     }
     if bad_multiplier(c.multiplier) {

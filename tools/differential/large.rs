@@ -1,4 +1,4 @@
-// A few large patterns, to n = 100,000 and nnz = 2,000,000.
+// A few large patterns, to n = 100,000 and nnz = 2,000,000; and what larger ones are made of.
 use crate::case::Case;
 use crate::draw::Draw;
 use crate::patterns::{columns_of, drawn_graph, grid, packed, Edge, Pattern, Storage};
@@ -13,8 +13,21 @@ pub fn ring(n: usize, width: usize) -> Pattern {
     packed(&columns)
 }
 
+pub fn stored(n: usize, edges: &[Edge], storage: Storage) -> Pattern {
+    packed(&columns_of(n, edges, storage, &mut Draw(1)))
+}
+
+// row 0 and the rows from `first` on
+pub fn star(first: usize, n: usize) -> Vec<Edge> {
+    (first..n).map(|k| (0, k)).collect()
+}
+
+// jumbled: every column out of order, its first row twice
+pub fn backwards(n: usize) -> Pattern {
+    packed(&(0..n).map(|k| vec![((k + 3) % n) as i32, (k / 2) as i32, (k / 3) as i32, ((k + 3) % n) as i32]).collect::<Vec<_>>())
+}
+
 pub fn large(draw: &mut Draw, give: Give) {
-    let mut stored = |n: usize, edges: &[Edge], storage: Storage| packed(&columns_of(n, edges, storage, &mut Draw(1)));
     for n in [5_000, 10_000, 50_000] {
         let edges = drawn_graph(n, 8, draw);
         for (storage, aggressive) in [(Storage::Both, true), (Storage::Mixed, false), (Storage::Upper, true)] {
@@ -29,7 +42,7 @@ pub fn large(draw: &mut Draw, give: Give) {
         give(Case::new(stored(90_000, &grid(300, 300), storage), 10.0, aggressive));
     }
     // a star of 70,000 leaves, whose sum of rows passes 2^32
-    let star: Vec<Edge> = (30_000..MOST).map(|k| (0, k)).collect();
+    let star = star(30_000, MOST);
     for multiplier in [-1.0, 1000.0, 10.0] {
         give(Case::new(stored(MOST, &star, Storage::Upper), multiplier, true));
     }
@@ -40,7 +53,5 @@ pub fn large(draw: &mut Draw, give: Give) {
     for multiplier in [10.0, 0.0] {
         give(Case::new(full.clone(), multiplier, true));
     }
-    // jumbled: every column backwards, its first row twice
-    let backwards: Vec<Vec<i32>> = (0..MOST).map(|k| vec![((k + 3) % MOST) as i32, (k / 2) as i32, (k / 3) as i32, ((k + 3) % MOST) as i32]).collect();
-    give(Case::new(packed(&backwards), 10.0, true));
+    give(Case::new(backwards(MOST), 10.0, true));
 }

@@ -13,6 +13,7 @@ mod files;
 mod internal;
 mod large;
 mod lent;
+mod millions;
 mod ours;
 mod patterns;
 mod post_tree;
@@ -47,7 +48,7 @@ fn main() {
     };
     let hard = files::cases(&format!("{}/hard.txt", args[0]));
     let panics = files::cases(&format!("{}/panics.txt", args[0]));
-    let suites: [(&str, &dyn Fn(&mut Draw, Give)); 18] = [
+    let suites: [(&str, &dyn Fn(&mut Draw, Give)); 23] = [
         ("every pattern, n to 4", &small::every_pattern),
         ("every column of 3, n to 3", &small::every_jumble),
         ("every graph, n 5 and 6", &small::every_graph),
@@ -66,6 +67,11 @@ fn main() {
         ("near patterns/hard.txt", &|draw, give| files::nearby(&hard, draw, give)),
         ("patterns/panics.txt", &|_, give| files::as_they_are(&panics, give)),
         ("near patterns/panics.txt", &|draw, give| files::nearby(&panics, draw, give)),
+        ("millions: grids", &millions::grids),
+        ("millions: random", &millions::random),
+        ("millions: stars", &millions::stars),
+        ("millions: full", &millions::full),
+        ("millions: products that wrap", &millions::wraps),
     ];
     let word = args.get(2).map_or("", |w| w);
     for (k, (name, suite)) in suites.iter().enumerate().filter(|s| (s.1).0.contains(word)) {

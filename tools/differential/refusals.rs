@@ -5,7 +5,7 @@ use crate::large::ring;
 use crate::patterns::{columns_of, drawn_edges, grid, packed, Pattern, STORAGES};
 use crate::small::Give;
 
-const SIZES: [i32; 8] = [i32::MIN, -2, -1, 0, 99_999, 100_000, 100_001, i32::MAX];
+const SIZES: [i32; 8] = [i32::MIN, -2, -1, 0, 1_999_999, 2_000_000, 2_000_001, i32::MAX];
 
 fn multipliers() -> Vec<f64> {
     let mut xs = vec![f64::NAN, -f64::NAN, f64::INFINITY, f64::NEG_INFINITY, f64::MAX, f64::MIN, f64::MIN_POSITIVE, -f64::MIN_POSITIVE];
@@ -36,7 +36,7 @@ fn edges_of(good: &Case, give: Give) {
     for size in SIZES.iter().copied().chain([good.n - 1, good.n + 1]) {
         with(&|c| c.n = size);
         // with outputs of that length, so that only the rest is wrong
-        if (0..=100_001).contains(&size) {
+        if (0..=2_000_001).contains(&size) {
             with(&|c| (c.n, c.permutation, c.inverse) = (size, size as usize, size as usize));
         }
     }
@@ -55,7 +55,7 @@ fn edges_of(good: &Case, give: Give) {
         for by in [-1, 1] {
             with(&|c| c.pointers[k] += by);
         }
-        for value in [-1, i32::MIN, i32::MAX, 2_000_000, 2_000_001] {
+        for value in [-1, i32::MIN, i32::MAX, 20_000_000, 20_000_001] {
             with(&|c| c.pointers[k] = value);
         }
     }
@@ -142,7 +142,7 @@ pub fn several(draw: &mut Draw, give: Give) {
 // the limits of n and nnz, and one past them, on patterns of that size
 pub fn limits(_: &mut Draw, give: Give) {
     let empty = |n: usize| Case::new(Pattern { pointers: vec![0; n + 1], rows: vec![] }, 10.0, true);
-    for n in [99_999, 100_000, 100_001] {
+    for n in [1_999_999, 2_000_000, 2_000_001] {
         give(empty(n));
         for (lists, scratch) in [(1, 0), (0, 1)] {
             let mut case = empty(n);
@@ -151,9 +151,9 @@ pub fn limits(_: &mut Draw, give: Give) {
             give(case);
         }
     }
-    // 2,000,000 entries in 1,000 columns: every row of every column twice
-    let twice: Vec<Vec<i32>> = (0..1_000).map(|_| (0..2_000).map(|i| i / 2).collect()).collect();
-    let full = Case::new(packed(&twice), 10.0, true);
+    // 20,000,000 entries in 1,000 columns: every row of every column twenty times
+    let repeated: Vec<Vec<i32>> = (0..1_000).map(|_| (0..20_000).map(|i| i / 20).collect()).collect();
+    let full = Case::new(packed(&repeated), 10.0, true);
     give(full.clone());
     for (lists, scratch) in [(1, 0), (0, 1)] {
         let mut case = full.clone();
@@ -161,12 +161,12 @@ pub fn limits(_: &mut Draw, give: Give) {
         case.scratch -= scratch;
         give(case);
     }
-    let mut over = twice.clone();
+    let mut over = repeated;
     over[999].push(0);
     give(Case::new(packed(&over), 10.0, true));
-    // the last row of two million is bad
-    let mut case = Case::new(ring(100_000, 20), 10.0, true);
-    case.rows[1_999_999] = 100_000;
+    // the last row of twenty million is bad
+    let mut case = Case::new(ring(2_000_000, 10), 10.0, true);
+    case.rows[19_999_999] = 2_000_000;
     give(case.clone());
     case.rows.pop();
     give(case);

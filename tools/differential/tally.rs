@@ -1,5 +1,5 @@
 // Counts of a run, as tables in Markdown.
-use crate::case::Case;
+use crate::case::{words, Case};
 use crate::trial::Trial;
 use std::collections::BTreeMap;
 
@@ -27,12 +27,14 @@ pub struct Tally {
     refusals: BTreeMap<i32, BTreeMap<&'static str, u64>>,
     // by place: how often, and the smallest such case
     panics: BTreeMap<String, (u64, usize, String)>,
+    // cases in which the Rust's product wraps, with both sides' statistics
+    wraps: Vec<String>,
     first: Option<String>,
 }
 
 impl Tally {
     pub fn new() -> Tally {
-        Tally { lines: Vec::new(), began: std::time::Instant::now(), refusals: BTreeMap::new(), panics: BTreeMap::new(), first: None }
+        Tally { lines: Vec::new(), began: std::time::Instant::now(), refusals: BTreeMap::new(), panics: BTreeMap::new(), wraps: Vec::new(), first: None }
     }
 
     fn end_line(&mut self) {
@@ -66,6 +68,10 @@ impl Tally {
         if let Some(place) = &trial.panic_in_order {
             self.panicked("in `order`", place, case, trial.answer);
         }
+        if let Some(told) = trial.wrapped {
+            let (n, nnz) = (case.n, case.rows.len());
+            self.wraps.push(format!("n {}, nnz {}\n    ours {}\n    Rust {}", n, nnz, words(&trial.statistics), words(&told)));
+        }
         let line = self.lines.last_mut().unwrap();
         line.cases += 1;
         line.orderly += (trial.answer == 0) as u64;
@@ -74,9 +80,9 @@ impl Tally {
         if trial.answer < 2 {
             line.largest = line.largest.max(case.n as usize);
         }
-        line.dense += (trial.dense > 0) as u64;
-        line.collected += (trial.collections > 0) as u64;
-        line.most_collections = line.most_collections.max(trial.collections);
+        line.dense += (trial.statistics[4] > 0) as u64;
+        line.collected += (trial.statistics[6] > 0) as u64;
+        line.most_collections = line.most_collections.max(trial.statistics[6]);
         line.panics_in_room += trial.panic_in_room.is_some() as u64;
         line.panics_in_order += (trial.answer < 2 && trial.panic_in_order.is_some()) as u64;
         if trial.answer > 1 {
@@ -132,6 +138,10 @@ impl Tally {
         println!("\nPanics of the Rust, and the smallest input of each kind:\n");
         for (kind, (count, _, text)) in &self.panics {
             println!("{}: {}\n    {}", kind, count, text.replace('\n', "\n    "));
+        }
+        println!("\nCases in which the Rust's product wraps: {}", self.wraps.len());
+        for text in &self.wraps {
+            println!("{}", text);
         }
         if let Some(first) = &self.first {
             println!("\nThe first mismatch:\n{}", first);

@@ -8,19 +8,28 @@ use crate::theirs::{self, Theirs, Told};
 pub struct Trial {
     pub answer: i32,
     pub faults: Vec<String>,
-    // of an accepted case, as we count them
-    pub collections: u64,
-    pub dense: u64,
+    // ours
+    pub statistics: [u64; 7],
     // the Rust's panics: in the same room, and in the room that its `order` chooses
     pub panic_in_room: Option<String>,
     pub panic_in_order: Option<String>,
+    // what the Rust's statistics were before they were put right
+    pub wrapped: Option<[u64; 7]>,
     // of a refused case: `invalid`, `accepts` or `panics`; empty where the Rust was not run
     pub rust_says: &'static str,
 }
 
-// the six statistics that no room changes
-fn six(told: &Told) -> &[u64] {
-    &told.statistics[..6]
+// The Rust makes (f-1)·f·(2f-1) whole before it divides, which wraps from f = 1,664,512 on (docs/DIFFERENCES.md, part 3). Of so many dense rows its two
+// totals are put right: what it added for them goes, and what they are is added.
+fn unwrapped(mut told: Told) -> Told {
+    let f = told.statistics[4] as i64;
+    let q = ((f - 1) * f / 2) as u64;
+    let added = ((f - 1).wrapping_mul(f).wrapping_mul(2 * f - 1) / 6) as u64;
+    let right = ((f as i128 - 1) * f as i128 * (2 * f as i128 - 1) / 6) as u64;
+    let put = |total: u64, added: u64, right: u64| total.wrapping_sub(added).wrapping_add(right);
+    told.statistics[2] = put(told.statistics[2], added.wrapping_add(q) / 2, (right + q) / 2);
+    told.statistics[3] = put(told.statistics[3], added, right);
+    told
 }
 
 fn in_order(case: &Case) -> Theirs {
@@ -38,37 +47,43 @@ impl Trial {
         }
     }
 
+    fn same<T: PartialEq + ToString>(&mut self, what: &str, which: &str, ours: &[T], told: &[T]) {
+        if ours != told {
+            self.faults.push(format!("{} differs from the Rust's ({})\n  ours {}\n  Rust {}", what, which, words(ours), words(told)));
+        }
+    }
+
     // `count` of the statistics are compared: 7 in one room, 6 in two
-    fn agree(&mut self, told: &Told, count: usize, ours: &Told, fit: usize, which: &str) {
-        let mut same = |holds: bool, what: &str, a: String, b: String| {
-            if !holds {
-                self.faults.push(format!("{} differs from the Rust's ({})\n  ours {}\n  Rust {}", what, which, a, b));
-            }
-        };
-        same(told.jumbled == ours.jumbled, "jumbled", ours.jumbled.to_string(), told.jumbled.to_string());
-        same(told.permutation == ours.permutation, "permutation", words(&ours.permutation), words(&told.permutation));
-        same(told.inverse == ours.inverse, "inverse", words(&ours.inverse), words(&told.inverse));
+    fn agree(&mut self, told: Told, count: usize, ours: &Told, fit: usize, which: &str) {
+        let was = told.statistics;
+        let told = unwrapped(told);
+        if was != told.statistics {
+            self.wrapped = Some(was);
+        }
+        self.same("jumbled", which, &[ours.jumbled], &[told.jumbled]);
+        self.same("permutation", which, &ours.permutation, &told.permutation);
+        self.same("inverse", which, &ours.inverse, &told.inverse);
         let count = count.min(fit);
-        same(told.statistics[..count] == ours.statistics[..count], "statistics", words(&ours.statistics[..fit]), words(&told.statistics));
+        self.same("statistics", which, &ours.statistics[..count], &told.statistics[..count]);
     }
 
     // A panic leaves nothing to compare: then the Rust in its own room, or in twice the room, is asked for all but the collections.
     fn compare(&mut self, case: &Case, ours: &Told, fit: usize) {
         let own = in_order(case);
         let same_room = if case.n == 0 { Theirs::Invalid } else { in_room(case, case.lists) };
-        match &same_room {
+        match same_room {
             Theirs::Told(told) => self.agree(told, 7, ours, fit, "same room"),
-            Theirs::Panic(place) => self.panic_in_room = Some(place.clone()),
+            Theirs::Panic(place) => self.panic_in_room = Some(place),
             Theirs::Invalid => self.must(case.n == 0, "the Rust refuses what is accepted here"),
         }
-        match &own {
+        match own {
             Theirs::Told(told) => self.agree(told, if case.n == 0 { 7 } else { 6 }, ours, fit, "its own room"),
-            Theirs::Panic(place) => self.panic_in_order = Some(place.clone()),
+            Theirs::Panic(place) => self.panic_in_order = Some(place),
             Theirs::Invalid => self.must(false, "the Rust's order refuses what is accepted here"),
         }
         if self.panic_in_room.is_some() && self.panic_in_order.is_some() {
             match in_room(case, 2 * case.lists) {
-                Theirs::Told(told) => self.agree(&told, 6, ours, fit, "twice the room"),
+                Theirs::Told(told) => self.agree(told, 6, ours, fit, "twice the room"),
                 _ => self.must(false, "the Rust panics in three rooms: nothing was compared"),
             }
         }
@@ -100,7 +115,7 @@ pub fn run(case: &Case, salt: u64) -> Trial {
     told[..fit].copy_from_slice(&statistics.part()[..fit]);
     let expected = expected::answer(case);
     let accepted = expected < 2;
-    let mut t = Trial { answer: expected, faults: Vec::new(), collections: 0, dense: 0, panic_in_room: None, panic_in_order: None, rust_says: "" };
+    let mut t = Trial { answer: expected, faults: Vec::new(), statistics: told, panic_in_room: None, panic_in_order: None, wrapped: None, rust_says: "" };
 
     if answer != expected {
         t.faults.push(format!("answer {}, and the table says {}", answer, expected));
@@ -123,8 +138,6 @@ pub fn run(case: &Case, salt: u64) -> Trial {
         let ours = Told { jumbled: answer == 1, permutation: permutation.part().to_vec(), inverse: inverse.part().to_vec(), statistics: told };
         let back = |k: usize| ours.inverse.get(ours.permutation[k] as usize) == Some(&(k as i32));
         t.must((0..case.n as usize).all(back), "permutation and inverse do not undo each other");
-        t.dense = ours.statistics[4];
-        t.collections = ours.statistics[6];
         t.compare(case, &ours, fit);
     } else if !accepted && case.pointers.len() <= 2_000 {
         t.rust_says = match in_order(case) {

@@ -47,7 +47,7 @@ def bad_multiplier(c):
 
 def bad_pointers(c):
     p = c.pointers
-    return (len(p) != c.n + 1 or p[0] != 0 or any(y < x for x, y in zip(p, p[1:])) or p[-1] > 2_000_000 or p[-1] > len(c.rows))
+    return (len(p) != c.n + 1 or p[0] != 0 or any(y < x for x, y in zip(p, p[1:])) or p[-1] > 20_000_000 or p[-1] > len(c.rows))
 
 
 def jumbled(c):
@@ -55,7 +55,7 @@ def jumbled(c):
 
 
 def answer(c):
-    if c.n < 0 or c.n > 100_000:
+    if c.n < 0 or c.n > 2_000_000:
         return 2
     if bad_multiplier(c):
         return 3
@@ -208,7 +208,7 @@ def refused():
     """Every answer at its boundary, and two faults at once."""
     good = case([0, 2, 6, 10, 12, 14], [0, 1, 0, 1, 2, 4, 1, 2, 3, 4, 2, 3, 1, 4])
     n, nnz = good.n, good.pointers[-1]
-    for size in (-2147483647, -1, 0, 4, 6, 99_999, 100_000, 100_001, 2147483647):
+    for size in (-2147483647, -1, 0, 4, 6, 1_999_999, 2_000_000, 2_000_001, 2147483647):
         yield good._replace(n=size)
     for a, b in ((0, 0), (1, 0), (-1, 0), (1000, 1), (4001, 4), (1001, 1), (3, 10), (1, 8), (1, 4), (0, -1), (-3, 10), (-1, 1000), (-2000, 1), (1, 3), (999, 1)):
         yield good._replace(a=a, b=b)
@@ -219,7 +219,7 @@ def refused():
     yield good._replace(pointers=good.pointers + [nnz])
     yield good._replace(pointers=[])
     for k in range(n + 1):
-        for x in (good.pointers[k] - 1, good.pointers[k] + 1, -1, 2_000_000, 2_000_001):
+        for x in (good.pointers[k] - 1, good.pointers[k] + 1, -1, 20_000_000, 20_000_001):
             p = list(good.pointers)
             p[k] = x
             yield good._replace(pointers=p)

@@ -1,4 +1,5 @@
 // speed [ROUNDS]: times the exported ordering and the Rust's `order` in alternating rounds of one process, and prints a table in Markdown.
+// speed growth FILE: how time and memory grow with n; FILE is written for `speed peak FILE WHO`, which tells the memory of one run, and removed.
 // speed once CASE WHO: one run, of `rust`, `ours` or `zeroing`, inside the function `measured`, for a counter of instructions.
 // See docs/SPEED.md.
 mod aat;
@@ -6,6 +7,7 @@ mod amd;
 mod amd_1;
 mod amd_2;
 mod draw;
+mod growth;
 mod internal;
 mod ours;
 mod patterns;
@@ -16,14 +18,19 @@ mod theirs;
 mod valid;
 
 use draw::Draw;
-use patterns::{columns_of, drawn_graph, grid, packed, Pattern, Storage};
+use patterns::{columns_of, drawn_graph, grid, packed, Edge, Pattern, Storage};
 use std::hint::black_box;
 
 const SETTINGS: (f64, bool) = (10.0, true);
 // a name, and how many times fewer rounds it gets
 const CASES: [(&str, usize); 4] = [("grid 300 by 300", 1), ("random, n = 10,000", 1), ("random, n = 50,000", 3), ("random, n = 100,000", 7)];
 
-// symmetric, both triangles stored, no diagonal: four neighbours in the grid, eight entries a row in the mean in the others
+// both triangles stored, no diagonal
+fn symmetric(n: usize, edges: &[Edge]) -> Pattern {
+    packed(&columns_of(n, edges, Storage::Both, &mut Draw(0)))
+}
+
+// four neighbours in the grid, eight entries a row in the mean in the others
 fn pattern(case: usize) -> Pattern {
     let (n, edges) = match case {
         0 => (90_000, grid(300, 300)),
@@ -32,7 +39,7 @@ fn pattern(case: usize) -> Pattern {
             (n, drawn_graph(n, 8, &mut Draw(k as u64)))
         }
     };
-    packed(&columns_of(n, &edges, Storage::Both, &mut Draw(0)))
+    symmetric(n, &edges)
 }
 
 struct Room {
@@ -162,8 +169,11 @@ fn once(case: usize, who: &str) {
 
 fn main() {
     let args: Vec<String> = std::env::args().skip(1).collect();
-    if args.first().map_or(false, |a| a == "once") {
-        return once(args[1].parse().unwrap(), &args[2]);
+    match args.first().map_or("", |a| a) {
+        "growth" => return growth::growth(&args[1]),
+        "peak" => return growth::peak(&args[1], &args[2]),
+        "once" => return once(args[1].parse().unwrap(), &args[2]),
+        _ => (),
     }
     let rounds: usize = args.first().map_or(21, |a| a.parse().expect("ROUNDS is a number"));
     println!("| Case | n | nnz | Rounds | Rust, ms | Ours, ms | Ratio | Ratio in a round | Zeroing, ms | Part of ours | Ratio, room allocated too | Collections: Rust, ours |");

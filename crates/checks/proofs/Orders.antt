@@ -12,6 +12,7 @@ use mir.Syntax.{Width, w32, w64}
 use mir.Val.{hbits, bits, SFits, Fits, toZ, ofZ}
 use mir.Facts.{toZ-ofZ, sfits-widen, fits-natAbs}
 use borrow.Author.Tests.{le-ltb, lt-ltb, le-leb, lt-leb}
+use Rattle.definition.specs.Limits.{outside}
 
 -- a number that was read from its bits
 pub read : (w : Width) (x : ℤ) → mag x < 2 ^ hbits w → toZ w (ofZ w x) ≡ x
@@ -53,3 +54,8 @@ to-wide z h = rw (read w32 z h) (sfits-widen {w = w32} {w′ = w64} tt (record {
 
 pub wide-read : (z : ℤ) → mag z < 2 ^ hbits w32 → toZ w64 (ofZ w64 (toZ w32 (ofZ w32 z))) ≡ z
 wide-read z h = read w64 (toZ w32 (ofZ w32 z)) (to-wide z h .sfits) ∙ read w32 z h
+
+-- ---- a limit that a call gave
+
+pub outside-same : {most limit : ℕ} {x y : ℤ} → most ≡ limit → x ≡ y → outside most x ≡ outside limit y
+outside-same e f = rw (e, f)

@@ -17,11 +17,6 @@ ghost use Rattle.checks.specs.Given.{patternGiven, problemGiven, isRow, 
 use numbers::Answer;
 use numbers::Settings;
 
-// The most columns and the most entries of a pattern.
-const MOST_COLUMNS: usize = 100000;
-
-const MOST_ENTRIES: usize = 2000000;
-
 // ---- numbers
 
 // Whether a number is below 0 or above the most.
@@ -31,11 +26,11 @@ fn is_outside(most: usize, x: i64) -> bool
     x < 0 || most < x as usize
 }
 
-// Answer 2: n below 0 or above 100,000.
+// Answer 2: n below 0 or above the most columns.
 pub fn count_wrong(n: i32) -> bool
     ensures { λ r. ⌜ r ≡ outside (baseLimits .mostColumns) n ⌝ }
 {
-    is_outside(MOST_COLUMNS, n as i64)
+    is_outside(numbers::most_columns(), n as i64)
 }
 
 // Answer 4: an output not of length n.
@@ -75,7 +70,7 @@ pub fn room_wrong(n: usize, nnz: usize, lists: usize, scratch: usize) -> bool
 fn sizes_wrong(n: i64, nnz: i64) -> bool
     ensures { λ r. ⌜ r ≡ (outside (baseLimits .mostColumns) n || outside (baseLimits .mostEntries) nnz) ⌝ }
 {
-    is_outside(MOST_COLUMNS, n) || is_outside(MOST_ENTRIES, nnz)
+    is_outside(numbers::most_columns(), n) || is_outside(numbers::most_entries(), nnz)
 }
 
 // The room of lists for any two numbers, 0 outside the limits.
@@ -138,7 +133,7 @@ pub fn pointers_wrong(n: usize, pointers: &[i32], rows: &[i32]) -> bool
         return true;
     }
     let nnz = number_at(pointers, n);
-    MOST_ENTRIES < nnz || rows.len() < nnz
+    numbers::most_entries() < nnz || rows.len() < nnz
 }
 
 // ---- the rows

@@ -54,18 +54,19 @@ pub answers : map (λ l. numberOf (after l .answer)) ladder ≡ (2 ∷ 3 ∷ 4 �
 unfolding opened
 answers = refl
 
--- ---- each part of a case alone: n above 100,000; the inverse too long; a row below 0, a row that is n; the scratch one short
+-- ---- each part of a case alone: n above 2,000,000 (at 2,000,000 the outputs are wrong); the inverse too long; a row below 0, a row that is n; the scratch one short
 
 abbrev single : List Lent
 single =
-    lent (pos 100001) good (pos 0 ∷ pos 1 ∷ []) ten 3 3 7 66
+    lent (pos 2000001) good (pos 0 ∷ pos 1 ∷ []) ten 3 3 7 66
+    ∷ lent (pos 2000000) good (pos 0 ∷ pos 1 ∷ []) ten 3 3 7 66
     ∷ lent (pos 3) good (pos 0 ∷ pos 1 ∷ []) ten 3 4 7 66
     ∷ lent (pos 3) good (pos 0 ∷ negsuc 0 ∷ []) ten 3 3 7 66
     ∷ lent (pos 3) good (pos 3 ∷ pos 0 ∷ []) ten 3 3 7 66
     ∷ lent (pos 3) good (pos 0 ∷ pos 1 ∷ []) ten 3 3 7 65
     ∷ []
 
-pub parts : map (λ l. numberOf (after l .answer)) single ≡ (2 ∷ 4 ∷ 6 ∷ 6 ∷ 7 ∷ [])
+pub parts : map (λ l. numberOf (after l .answer)) single ≡ (2 ∷ 4 ∷ 4 ∷ 6 ∷ 6 ∷ 7 ∷ [])
 unfolding opened
 parts = refl
 
@@ -148,13 +149,13 @@ untouchedThen = refl
 pub rooms :
     (roomWithin baseLimits listsRoom (pos 3) (pos 2)
     ∷ roomWithin baseLimits scratchRoom (pos 3) (pos 2)
-    ∷ roomWithin baseLimits listsRoom (pos 100000) (pos 2000000)
-    ∷ roomWithin baseLimits scratchRoom (pos 100000) (pos 2000000)
-    ∷ roomWithin baseLimits listsRoom (pos 100001) (pos 0)
-    ∷ roomWithin baseLimits scratchRoom (pos 0) (pos 2000001)
+    ∷ roomWithin baseLimits listsRoom (pos 2000000) (pos 20000000)
+    ∷ roomWithin baseLimits scratchRoom (pos 2000000) (pos 20000000)
+    ∷ roomWithin baseLimits listsRoom (pos 2000001) (pos 0)
+    ∷ roomWithin baseLimits scratchRoom (pos 0) (pos 20000001)
     ∷ roomWithin baseLimits scratchRoom (negsuc 0) (pos 0)
     ∷ roomWithin baseLimits scratchRoom (pos 0) (negsuc 0)
     ∷ [])
-    ≡ (7 ∷ 66 ∷ 4100000 ∷ 3600016 ∷ 0 ∷ 0 ∷ 0 ∷ 0 ∷ [])
+    ≡ (7 ∷ 66 ∷ 42000000 ∷ 52000016 ∷ 0 ∷ 0 ∷ 0 ∷ 0 ∷ [])
 unfolding opened
 rooms = refl

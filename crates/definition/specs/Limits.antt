@@ -1,4 +1,4 @@
--- The numbers of document 01 that bound a problem: the only place that has them. A size is a number of cells.
+-- The numbers of document 01 that bound a problem, as request 4 of document 02 raised them: the only place that has them. A size is a number of cells.
 -- Assumes nothing.
 use Prim.Native.Nat.{ℕ, _+_, _*_}
 use mathlib.Core.Bool.{Bool, _||_, cond}
@@ -10,9 +10,9 @@ pub record Limits : Type 0 where
   pub mostColumns : ℕ
   pub mostEntries : ℕ
 
--- "n below 0 or above 100,000", "nnz above 2,000,000"
+-- "n below 0 or above 2,000,000", "nnz above 20,000,000"
 unfoldable pub baseLimits : Limits
-baseLimits = record { mostColumns = 100000; mostEntries = 2000000 }
+baseLimits = record { mostColumns = 2000000; mostEntries = 20000000 }
 
 -- below 0, or above the most
 unfoldable pub outside : ℕ → ℤ → Bool

@@ -43,7 +43,7 @@ jumbled cols = not (every rises cols)
 
 -- ---- what a pattern is refused for
 
--- answer 2: "n below 0 or above 100,000"
+-- answer 2: "n below 0 or above 2,000,000"
 unfoldable pub badCount : Limits → Pattern → Bool
 badCount limits a = outside (limits .mostColumns) (a .n)
 
@@ -69,7 +69,7 @@ climbs (x ∷ xs) = climbsFrom x xs
 unfoldable pub badOrder : Pattern → Bool
 badOrder a = not (climbs (a .pointers))
 
--- "nnz above 2,000,000, or nnz above the length of the row slice"
+-- "nnz above 20,000,000, or nnz above the length of the row slice"
 unfoldable pub badTotal : Limits → Pattern → Bool
 badTotal limits a = ltb (limits .mostEntries) (nnz a) || ltb (length (a .rows)) (nnz a)
 

@@ -10,6 +10,7 @@ use lib.ListN.{length}
 use Rattle.plain.proofs.Members.{member-here}
 use Rattle.plain.proofs.Sums.{one-below}
 use Rattle.plain.specs.Lists.{member}
+use Rattle.definition.specs.Limits.{baseLimits}
 use Rattle.definition.specs.State.{State, weight, degree, elementsOf, variablesOf, started}
 use Rattle.definition.specs.Pivot.{Found, found, collected, passed}
 use Rattle.definition.specs.Trim.{external}
@@ -72,10 +73,11 @@ module _ (nbrs : List (List ℕ)) (nb : Neighbourly nbrs) (keyOf : ℕ → ℕ) 
       omega (arith, flag-after k, mul-le-mul-left (2 * n) (gone-most keyOf aggressive (after k) (inv-run keyOf aggressive k (started limit nbrs) (inv-start limit nbrs nb))))
 
 -- in words of 64 bits, a list's length of marks more
-pub flag-small : (n : ℕ) → n ≤ 2000000 → 2 + 2 * n * n + n < 2 ^ 43
+pub flag-small : (n : ℕ) → n ≤ baseLimits .mostColumns → 2 + 2 * n * n + n < 2 ^ 43
+unfolding baseLimits
 flag-small n l =
-    let a : 2 * n ≤ 4000000 = omega arith in
-    let b : 2 * n * n ≤ 4000000 * 2000000 = mul-le-mul a l in
+    let a : 2 * n ≤ 2 * baseLimits .mostColumns = omega arith in
+    let b : 2 * n * n ≤ 2 * baseLimits .mostColumns * baseLimits .mostColumns = mul-le-mul a l in
     omega arith
 
 -- ---- what the argument rests on

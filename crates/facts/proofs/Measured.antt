@@ -5,7 +5,6 @@ use native.Mathlib.Omega.{arith}
 use mathlib.Core.Bool.{Bool}
 use lib.ListN.{length}
 use Rattle.definition.specs.State.{started}
-use Rattle.definition.specs.Limits.{baseLimits}
 use Rattle.definition.specs.Pattern.{columnCount}
 use Rattle.definition.specs.Threshold.{Rule}
 use Rattle.definition.specs.Answers.{Problem, ruleFor}
@@ -50,5 +49,4 @@ module _ (p : Problem) (ok : Accepted p) where
       rw (length-graph p ok) at (told-widest (graphOf (p .pattern)) (neighbourly-graph p ok) (limitOf (p .pattern) rule) (keyFor (p .pattern)) aggressive)
 
   pub small-accepted : (rule : Rule) (aggressive : Bool) → SmallSix (plain (p .pattern) rule aggressive .six)
-  unfolding baseLimits
-  small-accepted rule aggressive = six-small (columnCount (p .pattern)) (plain (p .pattern) rule aggressive .six) (omega (arith, few-columns p ok)) (six-accepted rule aggressive)
+  small-accepted rule aggressive = six-small (columnCount (p .pattern)) (plain (p .pattern) rule aggressive .six) (few-columns p ok) (six-accepted rule aggressive)

@@ -1,11 +1,11 @@
--- The statistics in words of 64 bits: each product, sum and total is small enough, up to 100,000 columns and up to 2,000,000.
+-- The statistics in words of 64 bits: each product, sum and total is small enough for every accepted number of columns.
 -- Assumes nothing.
 use Prim.Native.Nat.{ℕ, _+_, _-_, _*_, _/_, _^_, _≤_, _<_}
-use native.Mathlib.Nat.{mul-le-mul}
 use native.Mathlib.Omega.{arith}
 use Rattle.plain.proofs.Falling.{square, triangle, square-mono, triangle-mono, sum-below, triangles-below}
-use Rattle.plain.proofs.Products.{pairs-most, rests-most, crossed-most, cubes-most, halved-most, whole-most, squares-most, falls-most, sums-small, squares-small}
+use Rattle.plain.proofs.Products.{once-most, pairs-most, rests-most, crossed-most, cubes-most, halved-most, squares-most, falls-most, sums-small, squares-small}
 use Rattle.plain.specs.Lists.{total, itself}
+use Rattle.definition.specs.Limits.{baseLimits}
 use Rattle.definition.specs.State.{State}
 use Rattle.definition.specs.Statistics.{gainQ, gainS, gainLdl, Six}
 use Rattle.facts.proofs.Gains.{fall-Q, fall-S, fall-Ldl}
@@ -27,31 +27,25 @@ pub record Small (f r : ℕ) : Type 0 where
   pub gain-s : gainS f r < 2 ^ 63
   pub gain-both : gainS f r + gainQ f r < 2 ^ 63
 
-pub small-words : (n f r : ℕ) → n ≤ 2000000 → f + r ≤ n → Small f r
-unfolding gainQ gainS
+pub small-words : (n f r : ℕ) → n ≤ baseLimits .mostColumns → f + r ≤ n → Small f r
+unfolding gainQ gainS baseLimits
 small-words n f r l m =
-    let q = falls-most 2000000 n f r l m in
-    let s = squares-most 2000000 n f r l m in
-    let a = sums-small 2000000 2000000 (omega arith) in
-    let b = squares-small 2000000 2000000 (omega arith) in
-    let x : f ≤ 2000000 = omega arith in
-    let y : r ≤ 2000000 = omega arith in
-    let c : f * r ≤ 2000000 * 2000000 = mul-le-mul x y in
+    let N = baseLimits .mostColumns in
+    let q = falls-most N n f r l m in
+    let s = squares-most N n f r l m in
+    let a = sums-small N N (omega arith) in
+    let b = squares-small N N (omega arith) in
     record {
-      once = omega arith;
-      pairs = omega (arith, pairs-most 2000000 n f r l m);
-      rests = omega (arith, rests-most 2000000 n f r l m);
-      crossed = omega (arith, crossed-most 2000000 n f r l m);
-      cubes = omega (arith, cubes-most 2000000 n f r l m);
-      halved = omega (arith, halved-most 2000000 n f r l m);
+      once = omega (arith, once-most N n f r l m);
+      pairs = omega (arith, pairs-most N n f r l m);
+      rests = omega (arith, rests-most N n f r l m);
+      crossed = omega (arith, crossed-most N n f r l m);
+      cubes = omega (arith, cubes-most N n f r l m);
+      halved = omega (arith, halved-most N n f r l m);
       gain-q = omega arith;
       gain-s = omega arith;
       gain-both = omega arith;
     }
-
--- of 100,000 columns at most nothing needs to be halved, and the three may be added up before any is divided
-pub whole-words : (n f r : ℕ) → n ≤ 100000 → f + r ≤ n → f * r * r + r * (f - 1) * f + (f - 1) * f * (2 * f - 1) < 2 ^ 63
-whole-words n f r l m = omega (arith, whole-most 100000 n f r l m)
 
 -- ---- the totals
 
@@ -61,10 +55,11 @@ pub record SmallTotals (nd : ℕ) (s : State) : Type 0 where
   pub lu : total (λ e. gainS (e .pivots) (e .rest + nd)) (s .fronts) < 2 ^ 62
   pub ldl : total (λ e. gainLdl (e .pivots) (e .rest + nd)) (s .fronts) < 2 ^ 62
 
-pub totals-so-far : (nd n : ℕ) (s : State) → n ≤ 2000000 → Tallied nd n s → SmallTotals nd s
+pub totals-so-far : (nd n : ℕ) (s : State) → n ≤ baseLimits .mostColumns → Tallied nd n s → SmallTotals nd s
+unfolding baseLimits
 totals-so-far nd n s l q =
-    let a = sums-small n 2000000 l in
-    let b = squares-small n 2000000 l in
+    let a = sums-small n (baseLimits .mostColumns) l in
+    let b = squares-small n (baseLimits .mostColumns) l in
     record {
       lnz = omega (arith, gains-so-far itself gainQ (λ x y h. h) fall-Q nd n s q);
       lu = omega (arith, gains-so-far square gainS square-mono fall-S nd n s q);
@@ -80,10 +75,11 @@ pub record SmallSix (x : Six) : Type 0 where
   pub dense : x .nDense < 2 ^ 31
   pub widest : x .dMax < 2 ^ 31
 
-pub six-small : (n : ℕ) (x : Six) → n ≤ 2000000 → Bounded n x → SmallSix x
+pub six-small : (n : ℕ) (x : Six) → n ≤ baseLimits .mostColumns → Bounded n x → SmallSix x
+unfolding baseLimits
 six-small n x l b =
-    let a = sums-small n 2000000 l in
-    let c = squares-small n 2000000 l in
+    let a = sums-small n (baseLimits .mostColumns) l in
+    let c = squares-small n (baseLimits .mostColumns) l in
     let e = sum-below n in
     record {
       lnz = omega (arith, b .lnz);

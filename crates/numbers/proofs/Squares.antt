@@ -1,8 +1,8 @@
 -- "Every float operation needed is exact on this domain": `t² <= multiplier² · n`, in floats, says that t is at most where the threshold starts from.
--- For t and n up to any N with N² and 16,000,000 · N below 2 ^ 53, so that every product has at most 53 binary digits. Two million is such an N.
+-- For t and n up to the most columns: multiplier² · n is at most 2·10^12 and has four fractional bits, t² is at most 4·10^12, so that every product has at most 53 binary digits.
 -- Assumes nothing.
 use Prim.Native.Nat.{ℕ, _+_, _*_, _^_, _≤_, _<_}
-use native.Mathlib.Nat.{lt-of-le-of-lt, mul-one, mul-comm, mul-le-mul}
+use native.Mathlib.Nat.{le-trans, lt-of-le-of-lt, mul-one, mul-comm, mul-le-mul}
 use native.Mathlib.Decide.{decLe}
 use native.Mathlib.Omega.{arith}
 use mathlib.Core.Path.{_≡_, refl, ap, _∙_}
@@ -13,6 +13,7 @@ use lib.Ieee.{Float, binary64, mul, le, ofInt}
 use lib.Ieee.Exact.{HasValue}
 use borrow.Author.Tests.{leb-true, le-leb}
 use Rattle.plain.proofs.Logic.{bool-ext}
+use Rattle.definition.specs.Limits.{baseLimits}
 use Rattle.definition.specs.Threshold.{multiplier, quartersOf, start}
 use Rattle.definition.proofs.Root.{IsStart, start-is}
 use Rattle.numbers.proofs.Exact.{mul-exact, int-exact, le-is}
@@ -40,30 +41,36 @@ up-to-start x n s t h =
     below l (yes k) = absurd (omega (arith, h .high, squares (s + 1) t k))
     below l (no k) = omega arith
 
--- the limit on n that is to come leaves room too
-pub two-million : (2000000 * 2000000 < 2 ^ 53) × (16000000 * 2000000 < 2 ^ 53)
-two-million = (lit< tt, lit< tt)
+-- the range: multiplier² · n in sixteenths, and t²
+pub range : (16 * (1000 * 1000 * baseLimits .mostColumns) ≡ 16 * 2000000000000) × (2000000000000 < 2 ^ 41) × (16 * 2000000000000 < 2 ^ 53) × (baseLimits .mostColumns * baseLimits .mostColumns < 2 ^ 53)
+unfolding baseLimits
+range = (refl, lit< tt, lit< tt, lit< tt)
 
-module _ (N : ℕ) (short : N * N < 2 ^ 53) (long : 16000000 * N < 2 ^ 53) (x : Float) (n : ℕ) (hn : n ≤ N) (Q : Quartered x) where
-  sixteenths : quartersOf x * quartersOf x ≤ 16000000
+module _ (x : Float) (n : ℕ) (hn : n ≤ baseLimits .mostColumns) (Q : Quartered x) where
+  sixteenths : quartersOf x * quartersOf x ≤ 16 * (1000 * 1000)
   sixteenths = mul-le-mul (Q .bound) (Q .bound)
 
-  product-small : quartersOf x * quartersOf x * n < 2 ^ 53
-  product-small = lt-of-le-of-lt (mul-le-mul sixteenths hn) long
+  pub product-most : quartersOf x * quartersOf x * n ≤ 16 * 2000000000000
+  product-most = le-trans (mul-le-mul sixteenths hn) (omega (arith, range .0))
 
-  product-exact : HasValue (product x n) false (quartersOf x * quartersOf x * n) 16
+  product-small : quartersOf x * quartersOf x * n < 2 ^ 53
+  product-small = lt-of-le-of-lt product-most (range .2)
+
+  pub product-exact : HasValue (product x n) false (quartersOf x * quartersOf x * n) 16
+  unfolding baseLimits
   product-exact =
       let q = quartersOf x in
       mul-exact false (mul binary64 x x) (ofInt binary64 (pos n)) (q * q) 16 n 1 4 (lit< tt) (lit< tt) refl (lit≤ tt) product-small
       (mul-exact (Q .sign) x x q 4 q 4 4 (lit< tt) (lit< tt) refl (lit≤ tt) (lt-of-le-of-lt sixteenths (lit< tt)) (Q .value) (Q .value))
       (int-exact n (omega arith))
 
-  square-exact : (t : ℕ) → t ≤ N → HasValue (square t) false (t * t) 1
+  pub square-exact : (t : ℕ) → t ≤ baseLimits .mostColumns → HasValue (square t) false (t * t) 1
+  unfolding baseLimits
   square-exact t h =
       let v = int-exact t (omega arith) in
-      mul-exact false (ofInt binary64 (pos t)) (ofInt binary64 (pos t)) t 1 t 1 0 (lit< tt) (lit< tt) refl (lit≤ tt) (lt-of-le-of-lt (mul-le-mul h h) short) v v
+      mul-exact false (ofInt binary64 (pos t)) (ofInt binary64 (pos t)) t 1 t 1 0 (lit< tt) (lit< tt) refl (lit≤ tt) (lt-of-le-of-lt (mul-le-mul h h) (range .3)) v v
 
-  pub within-start : (t : ℕ) → t ≤ N → le (square t) (product x n) ≡ leb t (start (multiplier x) n)
+  pub within-start : (t : ℕ) → t ≤ baseLimits .mostColumns → le (square t) (product x n) ≡ leb t (start (multiplier x) n)
   within-start t h =
       let q = quartersOf x in
       le-is (square t) (product x n) (t * t) 1 (q * q * n) 16 (lit< tt) (lit< tt) (square-exact t h) product-exact

@@ -44,18 +44,18 @@ counted count x = record {
 
 -- the same as a test
 unfoldable pub roomy : Outcomes.Statistics → Bool
-roomy x = leb (x .lnz) (2 ^ 62) && leb (x .nDiv) (2 ^ 62) && leb (x .nMultSubsLdl) (2 ^ 62) && leb (x .nMultSubsLu) (2 ^ 62)
+roomy x = leb (x .lnz) (2 ^ 63) && leb (x .nDiv) (2 ^ 63) && leb (x .nMultSubsLdl) (2 ^ 63) && leb (x .nMultSubsLu) (2 ^ 63)
 
 -- after an element, if it is one that an accepted pattern can have
 unfoldable pub addedElement : ℕ → ℕ → Outcomes.Statistics → Outcomes.Statistics
 addedElement f r x = cond (leb (f + r) (baseLimits .mostColumns) && roomy x) (gained f r x) x
 
--- totals to which one more element can be added: none comes near 2 ^ 64
+-- totals to which one more element can be added: a gain is at most 2 ^ 62, so that none passes 2 ^ 64
 pub record Small (s : Statistics) : Type 0 where
-  pub small-lnz : s .lnz ≤ 2 ^ 62
-  pub small-div : s .«n_div» ≤ 2 ^ 62
-  pub small-ldl : s .«n_mult_subs_ldl» ≤ 2 ^ 62
-  pub small-lu : s .«n_mult_subs_lu» ≤ 2 ^ 62
+  pub small-lnz : s .lnz ≤ 2 ^ 63
+  pub small-div : s .«n_div» ≤ 2 ^ 63
+  pub small-ldl : s .«n_mult_subs_ldl» ≤ 2 ^ 63
+  pub small-lu : s .«n_mult_subs_lu» ≤ 2 ^ 63
 
 -- the totals while g variables are gone, where no element has more than N rows
 pub record Within (N g : ℕ) (x : Outcomes.Statistics) : Type 0 where

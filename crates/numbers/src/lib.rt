@@ -52,6 +52,22 @@ pub struct Outcome {
     pub statistics: Statistics,
 }
 
+// ---- the limits
+
+// The most columns that a pattern may have. These two numbers are the only place of the code that has the limits.
+pub fn most_columns() -> usize
+    ensures { λ r. ⌜ r ≡ baseLimits .mostColumns ⌝ }
+{
+    2_000_000
+}
+
+// The most entries that a pattern may have.
+pub fn most_entries() -> usize
+    ensures { λ r. ⌜ r ≡ baseLimits .mostEntries ⌝ }
+{
+    20_000_000
+}
+
 // ---- answers
 
 // The number of an answer in the table.
@@ -212,21 +228,21 @@ pub fn first_statistics(dense: usize) -> Statistics
 // q = f·r + (f-1)·f/2, signed: at f = 0 the factor f-1 is negative and the gain is 0.
 fn gain_q(f: usize, r: usize) -> u64
     requires { ⌜ f + r ≤ baseLimits .mostColumns ⌝ }
-    ensures { λ q. ⌜ (q ≡ gainQ f r) × (q ≤ 2 ^ 60) ⌝ }
+    ensures { λ q. ⌜ (q ≡ gainQ f r) × (q ≤ 2 ^ 62) ⌝ }
 {
     let f = f as i64;
     let r = r as i64;
     (f * r + (f - 1) * f / 2) as u64
 }
 
-// s = f·r² + r·(f-1)·f + (f-1)·f·(2f-1)/6, signed.
+// s = f·r² + r·(f-1)·f + (f-1)·f·(2f-1)/6, signed. The last product would not fit for the largest f: (f-1)·f is even, so it is halved first, and a third is taken at the end.
 fn gain_s(f: usize, r: usize) -> u64
     requires { ⌜ f + r ≤ baseLimits .mostColumns ⌝ }
-    ensures { λ s. ⌜ (s ≡ gainS f r) × (s ≤ 2 ^ 60) ⌝ }
+    ensures { λ s. ⌜ (s ≡ gainS f r) × (s ≤ 2 ^ 62) ⌝ }
 {
     let f = f as i64;
     let r = r as i64;
-    (f * r * r + r * (f - 1) * f + (f - 1) * f * (2 * f - 1) / 6) as u64
+    (f * r * r + r * (f - 1) * f + (f - 1) * f / 2 * (2 * f - 1) / 3) as u64
 }
 
 fn larger(a: u64, b: u64) -> u64
@@ -261,16 +277,16 @@ pub fn with_element(s: Statistics, f: usize, r: usize) -> Statistics
 fn roomy(s: Statistics) -> bool
     ensures { λ r. ⌜ r ≡ roomy (statisticsMeant s) ⌝ }
 {
-    if 0x4000_0000_0000_0000 < s.lnz {
+    if 0x8000_0000_0000_0000 < s.lnz {
         return false;
     }
-    if 0x4000_0000_0000_0000 < s.n_div {
+    if 0x8000_0000_0000_0000 < s.n_div {
         return false;
     }
-    if 0x4000_0000_0000_0000 < s.n_mult_subs_ldl {
+    if 0x8000_0000_0000_0000 < s.n_mult_subs_ldl {
         return false;
     }
-    s.n_mult_subs_lu <= 0x4000_0000_0000_0000
+    s.n_mult_subs_lu <= 0x8000_0000_0000_0000
 }
 
 // The same of any numbers: an element that no accepted pattern has is not counted.
@@ -278,7 +294,7 @@ pub fn add_element(s: Statistics, f: usize, r: usize) -> Statistics
     requires { ⌜ (f < 2 ^ 63) × (r < 2 ^ 63) ⌝ }
     ensures { λ t. ⌜ statisticsMeant t ≡ addedElement f r (statisticsMeant s) ⌝ }
 {
-    if f + r <= 100_000 {
+    if f + r <= most_columns() {
         if roomy(s) {
             return with_element(s, f, r);
         }

@@ -60,8 +60,8 @@ module _ (p : Problem) (ok : Accepted p) where
   unfolding baseLimits
   none-in size l =
       let n = length (graphOf (p .pattern)) in
-      let few : n ≤ 100000 = omega (arith, few-columns p ok, length-graph p ok) in
-      let square : n * n ≤ 100000 * 100000 = mul-le-mul few few in
+      let few : n ≤ baseLimits .mostColumns = omega (arith, few-columns p ok, length-graph p ok) in
+      let square : n * n ≤ baseLimits .mostColumns * baseLimits .mostColumns = mul-le-mul few few in
       no-collections (graphOf (p .pattern)) (neighbourly-graph p ok) (keyFor (p .pattern)) (p .aggressive) (limitOf (p .pattern) (ruleFor p)) size
       (omega (arith, square, graph-entries p ok, few-entries p ok))
 

@@ -13,15 +13,24 @@ module _ (N n f r : ℕ) (small : n ≤ N) (fits : f + r ≤ n) where
   r-most : r ≤ N
   r-most = omega arith
 
+  pub once-most : f * r ≤ N * N
+  once-most = mul-le-mul f-most r-most
+
+  less-most : f - 1 ≤ N
+  less-most = omega (arith, f-most)
+
+  pub fewer-most : r * (f - 1) ≤ N * N
+  fewer-most = mul-le-mul r-most less-most
+
   -- the two factors that are one product
   pub pairs-most : (f - 1) * f ≤ N * N
-  pairs-most = mul-le-mul (omega (arith, f-most)) f-most
+  pairs-most = mul-le-mul less-most f-most
 
   pub rests-most : f * r * r ≤ N * N * N
-  rests-most = mul-le-mul (mul-le-mul f-most r-most) r-most
+  rests-most = mul-le-mul once-most r-most
 
   pub crossed-most : r * (f - 1) * f ≤ N * N * N
-  crossed-most = mul-le-mul (mul-le-mul r-most (omega (arith, f-most))) f-most
+  crossed-most = mul-le-mul fewer-most f-most
 
   pub cubes-most : (f - 1) * f * (2 * f - 1) ≤ 2 * (N * N * N)
   cubes-most =
@@ -36,11 +45,7 @@ module _ (N n f r : ℕ) (small : n ≤ N) (fits : f + r ≤ n) where
       let c : 2 * ((f - 1) * f / 2) * N ≤ N * N * N = mul-le-mul-right N b in
       omega (arith, mul-left-comm ((f - 1) * f / 2) 2 N, mul-assoc 2 ((f - 1) * f / 2) N)
 
-  -- the sum of all three, none divided
-  pub whole-most : f * r * r + r * (f - 1) * f + (f - 1) * f * (2 * f - 1) ≤ 4 * (N * N * N)
-  whole-most = omega (arith, rests-most, crossed-most, cubes-most)
-
-  -- and as it is meant, the last divided by 6
+  -- the sum of all three as it is meant, the last divided by 6
   pub squares-most : f * r * r + r * (f - 1) * f + (f - 1) * f * (2 * f - 1) / 6 ≤ total square (upTo N)
   squares-most =
       omega (arith, fall-squares r f, fall-under square square-mono r r f (omega arith), upTo-mono square square-mono (r + f) N (omega arith))

@@ -27,7 +27,7 @@ use Rattle.drawn.specs.Flags.{Flagged}
 use Rattle.drawn.specs.Log.{Logged}
 use Rattle.placing.proofs.Finish.{chained-after, count-after, fields-after, flagged-after, least-after, logged-after, long-after, others-after, rest-after, size-after, trimmed-after}
 use Rattle.elimination.specs.declared.Turn.{Turn}
-use Rattle.standing.proofs.Begun.{Before, begun, chosen, long₁, pivot-var}
+use Rattle.standing.proofs.Begun.{Before, begun, chosen, long₁, pivot-var, rows-short}
 use Rattle.standing.proofs.Merges.{chained₄, flagged₄, merged₄, merges, two₄}
 use Rattle.standing.proofs.Places.{done₅, gone-low, gone-next, kept₅, left-few, next, rest-low, spot₅}
 use Rattle.standing.proofs.Trims.{trimmed₃, trims}
@@ -97,7 +97,7 @@ module _ {N n nd size : ℕ} {l s : List ℤ} {t : Turn} {x : Outcomes.Statistic
   pub size₅ : rd n ELEN (done₅ b aggressive) p ≡ weight (next b aggressive .graph) p + degree (next b aggressive .graph) p
   size₅ =
       size-after (plainKey n) aggressive st (b .inv) p d (chosen b) L₄ S₄ cnt base lim drawn₄ (chained₄ b aggressive (left-few b aggressive))
-      (omega (arith, gone-next b aggressive, gone-low b aggressive, rest-low b aggressive, b .many, b .few))
+      (omega (arith, gone-next b aggressive, gone-low b aggressive, rest-low b aggressive, b .many, rows-short b))
 
   pub long₅ : length (kept₅ b aggressive .lists) ≡ size
   long₅ = long-after (plainKey n) aggressive st (b .inv) p d (chosen b) L₄ S₄ cnt base lim drawn₄ (chained₄ b aggressive (left-few b aggressive)) ∙ trimmed₃ b aggressive .long ∙ long₁ b

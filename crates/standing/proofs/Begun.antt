@@ -9,6 +9,7 @@ use lib.IntN.{ℤ}
 use lib.ListN.{length}
 use Rattle.plain.proofs.Entries.{entries-length}
 use Rattle.plain.specs.Turns.{entries, upd}
+use Rattle.definition.specs.Limits.{baseLimits}
 use Rattle.definition.specs.Outcome as Outcomes
 use Rattle.definition.specs.Pivot.{collected, delisted, found, passed, pivot}
 use Rattle.definition.specs.Room as room
@@ -46,7 +47,7 @@ pub record Before (N n nd size : ℕ) (l s : List ℤ) (t : Turn) (x : Outcomes.
   pub weighed : Weighed st
   pub which : pivot st ≡ found p d
   pub many : n ≤ N
-  pub few : N ≤ 100000
+  pub few : N ≤ baseLimits .mostColumns
   pub wide : room.allPlaces (st .graph) + n ≤ size
   pub narrow : size < 2 ^ 62
   pub stands : Standing N n nd size l s t x st rm
@@ -70,8 +71,12 @@ module _ {N n nd size : ℕ} {l s : List ℤ} {t : Turn} {x : Outcomes.Statistic
   pub pivot-low : p < n
   pivot-low = var-inside (b .inv .graph) p pivot-var
 
+  pub rows-short : N < 2 ^ 21
+  unfolding baseLimits
+  rows-short = omega (arith, b .few)
+
   pub small : n < 2 ^ 63
-  small = omega (arith, b .many, b .few)
+  small = omega (arith, b .many, rows-short)
 
   narrower : length l < 2 ^ 63
   narrower = omega (arith, b .narrow, h .long)
@@ -162,7 +167,7 @@ module _ {N n nd size : ℕ} {l s : List ℤ} {t : Turn} {x : Outcomes.Statistic
       subst (λ (a : ℕ). sizing.Outside n (t .flag) (begun .mem) (sizedAll n (begun .lists) (t .flag) a (begun .made .count) (begun .mem)) (passed g p) new) place₁
       (subst (λ (k : ℕ). sizing.Outside n (t .flag) (begun .mem) (sizedAll n (begun .lists) (t .flag) (rd n PE (begun .mem) p) k (begun .mem)) (passed g p) new) (sym counted₁)
       (outside-all st (b .inv) p pivot-var (begun .lists) (begun .mem) (begun .made .made) (begun .made .base) (begun .made .free) (t .flag) drawn₁ flagged₁
-      (omega (arith, flag-low, b .many, b .few)) light))
+      (omega (arith, flag-low, b .many, rows-short)) light))
 
   pub drawn₂ : Within n (begun .lists) sized (passed (st .graph) p) p (collected (st .graph) p) (begun .made .made) (begun .made .base) (begun .made .free)
   drawn₂ = drawn-kept (outside₂ .kept) drawn₁

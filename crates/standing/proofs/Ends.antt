@@ -2,7 +2,6 @@
 -- Assumes nothing.
 use Prim.Native.Nat.{ℕ, _≤_}
 use native.Mathlib.Omega.{arith}
-use native.Mathlib.Nat.{mul-le-mul}
 use mathlib.Core.Bool.{Bool, cond, false, false≢true, true, _&&_}
 use mathlib.Core.List.{List, [], _∷_, _++_}
 use mathlib.Core.Logic.{⊎-elim}
@@ -92,10 +91,8 @@ module _ (N n nd size : ℕ) (l s : List ℤ) (t : Turn) (x : Outcomes.Statistic
       }
 
   -- with the dense rows as one last element
-  pub six : n ≤ N → N ≤ 100000 → closed nd (t .collections) x ≡ Outcomes.seven (sixOf nd (st .fronts)) (rm .collections)
-  unfolding closed baseLimits
+  pub six : n ≤ N → N ≤ baseLimits .mostColumns → closed nd (t .collections) x ≡ Outcomes.seven (sixOf nd (st .fronts)) (rm .collections)
+  unfolding closed
   six many few =
-      let y = mul-le-mul few few in
-      let z = mul-le-mul few y in
-      let a = within-added N (st .gone) nd 0 x (omega (arith, over)) (omega arith) (h .within) (omega (arith, h .dense, over)) in
+      let a = within-added N (st .gone) nd 0 x (omega (arith, over)) few (h .within) (omega (arith, h .dense, over)) in
       rw (a, h .statistics, after-all nd (st .fronts), all-counted nd (t .collections) (st .fronts), ← (h .collections))

@@ -40,7 +40,7 @@ use Rattle.standing.proofs.Ends.{final, six}
 use Rattle.standing.proofs.Loop.{ran-stands}
 use Rattle.standing.proofs.Starts.{dense-is, starts}
 
-module _ (limit : ℕ) (nbrs : List (List ℕ)) (nb : Neighbourly nbrs) (few : length nbrs ≤ 100000) (aggressive : Bool) (l s : List ℤ) (free size : ℕ) (room : view.Room (length nbrs) s)
+module _ (limit : ℕ) (nbrs : List (List ℕ)) (nb : Neighbourly nbrs) (few : length nbrs ≤ baseLimits .mostColumns) (aggressive : Bool) (l s : List ℤ) (free size : ℕ) (room : view.Room (length nbrs) s)
     (packed : Packed (length nbrs) nbrs l s free) (whole : length l ≡ size) (wide : total length nbrs + length nbrs ≤ size) (narrow : size < 2 ^ 62)
     (l′ s′ : List ℤ) (r : Eliminated) (w : Whole (length nbrs) limit free aggressive l s l′ s′ r) where
   abbrev n : ℕ
@@ -52,13 +52,13 @@ module _ (limit : ℕ) (nbrs : List (List ℕ)) (nb : Neighbourly nbrs) (few : l
   abbrev nd : ℕ
   nd = opened n limit s .aside .dense
 
-  stands : Standing 100000 n nd size l′ s′ (w .last .turn) (statisticsMeant (w .last .statistics)) end
+  stands : Standing (baseLimits .mostColumns) n nd size l′ s′ (w .last .turn) (statisticsMeant (w .last .statistics)) end
       (beside (roomStep size) (plainKey n) n n aggressive (started limit nbrs) (record { free = total length nbrs; collections = 0 }))
   unfolding finalState
   stands =
-      ran-stands 100000 n nd size aggressive few (omega arith) narrow n l (opened n limit s .mem) (w .first) l′ s′ (w .last) (w .ran) (started limit nbrs)
+      ran-stands (baseLimits .mostColumns) n nd size aggressive few (omega arith) narrow n l (opened n limit s .mem) (w .first) l′ s′ (w .last) (w .ran) (started limit nbrs)
       (record { free = total length nbrs; collections = 0 }) (inv-start limit nbrs nb) (weighed-start limit nbrs) (omega (arith, places-start limit nbrs))
-      (rw (w .begins, w .none) (starts 100000 limit nbrs nb few l s free size room packed whole (omega arith)))
+      (rw (w .begins, w .none) (starts (baseLimits .mostColumns) limit nbrs nb few l s free size room packed whole (omega arith)))
 
   pub record Ending : Type 0 where
     pub merges : List ℕ
@@ -70,7 +70,7 @@ module _ (limit : ℕ) (nbrs : List (List ℕ)) (nb : Neighbourly nbrs) (few : l
     pub long : length l′ ≡ length l
 
   dense-end : nd ≡ length (denseRows (end .graph))
-  dense-end = dense-is 100000 limit nbrs nb few l s free size room packed whole (omega arith) ∙ ap length (sym (dense-final limit nbrs nb (plainKey n) aggressive))
+  dense-end = dense-is (baseLimits .mostColumns) limit nbrs nb few l s free size room packed whole (omega arith) ∙ ap length (sym (dense-final limit nbrs nb (plainKey n) aggressive))
 
   pub ends : Ending
   unfolding finalState collectionsOf
@@ -81,8 +81,8 @@ module _ (limit : ℕ) (nbrs : List (List ℕ)) (nb : Neighbourly nbrs) (few : l
       record {
         merges = stands .merges;
         count = sym (w .merges ∙ stands .count);
-        final = final 100000 n nd size l′ s′ (w .last .turn) (statisticsMeant (w .last .statistics)) end rm (at .0) (at .1) stands over;
-        statistics = w .closes ∙ six 100000 n nd size l′ s′ (w .last .turn) (statisticsMeant (w .last .statistics)) end rm (at .0) (at .1) stands over few (omega arith)
+        final = final (baseLimits .mostColumns) n nd size l′ s′ (w .last .turn) (statisticsMeant (w .last .statistics)) end rm (at .0) (at .1) stands over;
+        statistics = w .closes ∙ six (baseLimits .mostColumns) n nd size l′ s′ (w .last .turn) (statisticsMeant (w .last .statistics)) end rm (at .0) (at .1) stands over few (omega arith)
             ∙ ap (λ (k : ℕ). seven (sixOf k (end .fronts)) (rm .collections)) dense-end;
         long = stands .long ∙ sym whole;
       }
@@ -103,8 +103,7 @@ module _ (p : Problem) (ok : Accepted p) (l s : List ℤ) (free : ℕ) (room : v
   wide : total length A + length A ≤ p .listsSize
   wide = omega (arith, graph-room p ok, size)
 
-  few : length A ≤ 100000
-  unfolding baseLimits
+  few : length A ≤ baseLimits .mostColumns
   few = omega (arith, size, few-columns p ok)
 
   pub eliminated : (l′ s′ : List ℤ) (r : Eliminated) → Whole (columnCount (p .pattern)) (limitOf (p .pattern) (ruleFor p)) free (p .aggressive) l s l′ s′ r → Result p l l′ s′ r

@@ -10,6 +10,7 @@ use borrow.Author.Tests.{le-ltb, lt-ltb}
 use lib.Dec.{ltb}
 use lib.IntN.{ℤ}
 use Rattle.definition.specs.Elimination.{beside, eliminate, run, step}
+use Rattle.definition.specs.Limits.{baseLimits}
 use Rattle.definition.specs.Merge.{plainKey}
 use Rattle.definition.specs.Outcome as Outcomes
 use Rattle.definition.specs.Pivot.{Found, found, nobody, pivot}
@@ -32,7 +33,7 @@ use Rattle.standing.proofs.Begun.{Before}
 use Rattle.standing.proofs.Places.{stage-next}
 use Rattle.standing.proofs.Stands.{stands₅}
 
-module _ (N n nd size : ℕ) (aggressive : Bool) (many : n ≤ N) (few : N ≤ 100000) (narrow : size < 2 ^ 62) where
+module _ (N n nd size : ℕ) (aggressive : Bool) (many : n ≤ N) (few : N ≤ baseLimits .mostColumns) (narrow : size < 2 ^ 62) where
   -- of a state that the run reaches, the memory
   abbrev S : List ℤ → List ℤ → Work → State → room.Room → Type 0
   S l s w st rm = Standing N n nd size l s (w .turn) (statisticsMeant (w .statistics)) st rm

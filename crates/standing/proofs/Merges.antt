@@ -31,7 +31,7 @@ use Rattle.merging.specs.declared.Tally.{Tally}
 use Rattle.merging.specs.Model.{Merging, mergedRows, merging}
 use Rattle.elimination.specs.declared.Turn.{Turn}
 use Rattle.sizing.specs.Model.{weighedRows}
-use Rattle.standing.proofs.Begun.{Before, begun, flag-low, flagged₂, pivot-low, pivot-var, small}
+use Rattle.standing.proofs.Begun.{Before, begun, flag-low, flagged₂, pivot-low, pivot-var, rows-short, small}
 use Rattle.standing.proofs.Trims.{chained₃, extent₃, inside₃, light₃, list₃, place₃, trimmed₃, trims}
 
 -- a higher flag is above the marks too
@@ -66,7 +66,7 @@ module _ {N n nd size : ℕ} {l s : List ℤ} {t : Turn} {x : Outcomes.Statistic
     tally = record { flag = plus (t .flag) most₄; logged = trims b aggressive .merged .made }
 
     flag-is : plus (t .flag) most₄ ≡ t .flag + most₄
-    flag-is = plus-sum (t .flag) most₄ (omega (arith, flag-low b, modest, b .many, b .few))
+    flag-is = plus-sum (t .flag) most₄ (omega (arith, flag-low b, modest, b .many, rows-short b))
 
     flagged₃ : Flagged n (trims b aggressive .mem) g₂ (plus (t .flag) most₄)
     flagged₃ =
@@ -81,7 +81,7 @@ module _ {N n nd size : ℕ} {l s : List ℤ} {t : Turn} {x : Outcomes.Statistic
         survivors-given aggressive g p (b .inv .graph) (pivot-var b) (plainKey n) (trims b aggressive .lists) (trims b aggressive .mem)
         (begun b .made .made) (begun b .made .base) (begun b .made .free) tally (trimmed₃ b aggressive .merges) (trimmed₃ b aggressive .drawn) (light₃ b aggressive)
         (trimmed₃ b aggressive .bucketed) (flagged₃ .below) (small b) (trimmed₃ b aggressive .logged) (trimmed₃ b aggressive .count)
-        (omega (arith, flag-is, flag-low b, modest, b .many, b .few, short))
+        (omega (arith, flag-is, flag-low b, modest, b .many, rows-short b, short))
 
     abbrev pub merges : Merging
     merges =

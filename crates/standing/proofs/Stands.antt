@@ -2,12 +2,11 @@
 -- Assumes nothing.
 use Prim.Native.Nat.{ℕ, _+_, _*_, _≤_, _^_}
 use native.Mathlib.Omega.{arith}
-use native.Mathlib.Nat.{mul-le-mul, mul-le-mul-left, mul-suc}
+use native.Mathlib.Nat.{mul-le-mul-left, mul-suc}
 use mathlib.Core.Bool.{Bool}
 use mathlib.Core.List.{List}
 use mathlib.Core.Path.{_≡_, _∙_, ap, refl, sym, subst}
 use lib.IntN.{ℤ}
-use Rattle.definition.specs.Limits.{baseLimits}
 use Rattle.definition.specs.Merge.{plainKey}
 use Rattle.definition.specs.Outcome as Outcomes
 use Rattle.definition.specs.Pivot.{found}
@@ -28,7 +27,7 @@ use Rattle.numbers.proofs.Totals.{within-gained}
 use Rattle.numbers.specs.Gains.{Within, afterElements, gained}
 use Rattle.elimination.specs.Model.{elementCounted}
 use Rattle.standing.specs.Standing.{Standing}
-use Rattle.standing.proofs.Begun.{Before, begun, chosen, pivot-low, pivot-var}
+use Rattle.standing.proofs.Begun.{Before, begun, chosen, pivot-low, pivot-var, rows-short}
 use Rattle.standing.proofs.Merges.{above₄, merged₄, merges, risen₄, two₄}
 use Rattle.standing.proofs.Places.{done₅, gone-next, kept₅, left-few, left-is, next, rest-is, turn₅}
 use Rattle.standing.proofs.After.{chained₅, flagged₅, grows, least₅, logged₅, long₅, now, pivots-are, unwritten₅}
@@ -56,18 +55,12 @@ module _ {N n nd size : ℕ} {l s : List ℤ} {t : Turn} {x : Outcomes.Statistic
         b .many,
       )
 
-  cube : N * (N * N) ≤ 2 ^ 62
-  cube =
-      let y = mul-le-mul (b .few) (b .few) in
-      let z = mul-le-mul (b .few) y in
-      omega arith
-
   counts : elementCounted n p nd (done₅ b aggressive) x ≡ gained f r x
-  unfolding elementCounted baseLimits
+  unfolding elementCounted
   counts =
-      let q : plus (degree (next b aggressive .graph) p) nd ≡ r = plus-sum (degree (next b aggressive .graph) p) nd (omega (arith, rows-few, b .few)) in
+      let q : plus (degree (next b aggressive .graph) p) nd ≡ r = plus-sum (degree (next b aggressive .graph) p) nd (omega (arith, rows-few, rows-short b)) in
       rw (made₅ b aggressive .drawn .weights p (pivot-low b), made₅ b aggressive .drawn .degrees p (pivot-low b), q)
-      (within-added N (st .gone) f r x (omega (arith, b .inv .counted, b .many)) cube (b .stands .within) (omega (arith, rows-few, b .few)))
+      (within-added N (st .gone) f r x (omega (arith, b .inv .counted, b .many)) (b .few) (b .stands .within) (omega (arith, rows-few, b .few)))
 
   -- ---- THE turn
 
@@ -107,5 +100,5 @@ module _ {N n nd size : ℕ} {l s : List ℤ} {t : Turn} {x : Outcomes.Statistic
           omega (
             arith,
             b .stands .collections,
-            plus-sum (t .collections) (begun b .made .collected) (omega (arith, b .stands .few, made₅ b aggressive .one, b .inv .counted, b .many, b .few)),
+            plus-sum (t .collections) (begun b .made .collected) (omega (arith, b .stands .few, made₅ b aggressive .one, b .inv .counted, b .many, rows-short b)),
           )

@@ -9,6 +9,7 @@ use lib.IntN.{ℤ}
 use lib.ListN.{getD, length}
 use Rattle.plain.specs.Lists.{total}
 use Rattle.plain.specs.Turns.{entries}
+use Rattle.definition.specs.Limits.{baseLimits}
 use Rattle.definition.specs.State.{Graph, Kind, variable, merged, element, dense, degree, denseRows, isElement, kind, startWeight, started}
 use Rattle.definition.specs.Tree.{sizeOf}
 use Rattle.facts.proofs.Enlisted.{inv-start}
@@ -35,7 +36,7 @@ element-one merged e = absurd (false≢true e)
 element-one element e = refl
 element-one dense e = absurd (false≢true e)
 
-module _ (N limit : ℕ) (nbrs : List (List ℕ)) (nb : Neighbourly nbrs) (few : length nbrs ≤ 100000) (l s : List ℤ) (free size : ℕ) (room : view.Room (length nbrs) s)
+module _ (N limit : ℕ) (nbrs : List (List ℕ)) (nb : Neighbourly nbrs) (few : length nbrs ≤ baseLimits .mostColumns) (l s : List ℤ) (free size : ℕ) (room : view.Room (length nbrs) s)
     (packed : Packed (length nbrs) nbrs l s free) (long : length l ≡ size) (fits : total length nbrs ≤ size) where
   abbrev n : ℕ
   n = length nbrs
@@ -44,6 +45,7 @@ module _ (N limit : ℕ) (nbrs : List (List ℕ)) (nb : Neighbourly nbrs) (few :
   g = started limit nbrs .graph
 
   small : n < 2 ^ 63
+  unfolding baseLimits
   small = omega arith
 
   there : (v : ℕ) → v < n → entries (at l) (sumTo v (λ j. length (getD nbrs j []))) (length (getD nbrs v [])) ≡ getD nbrs v []
@@ -62,7 +64,7 @@ module _ (N limit : ℕ) (nbrs : List (List ℕ)) (nb : Neighbourly nbrs) (few :
   gone-is : plus (opened n limit s .aside .roots) (opened n limit s .aside .dense) ≡ started limit nbrs .gone
   gone-is =
       let e = opened-gone limit nbrs nb l s room small (packed .count) (packed .place) there fits-l in
-      plus-sum (opened n limit s .aside .roots) nd (omega (arith, e, inv-start limit nbrs nb .counted)) ∙ e
+      plus-sum (opened n limit s .aside .roots) nd (omega (arith, e, small, inv-start limit nbrs nb .counted)) ∙ e
 
   pub starts : Standing N (length nbrs) (opened (length nbrs) limit s .aside .dense) size l (opened (length nbrs) limit s .mem)
       (firstTurn (plus (opened (length nbrs) limit s .aside .roots) (opened (length nbrs) limit s .aside .dense)) free) (begun (opened (length nbrs) limit s .aside .dense))

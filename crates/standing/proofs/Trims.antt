@@ -40,7 +40,7 @@ use Rattle.trimming.specs.Step.{Ready, Trimmed}
 use Rattle.elimination.specs.declared.Turn.{Turn}
 use Rattle.sizing.proofs.Weighing.{weighed-total}
 use Rattle.sizing.specs.Model.{weighedRows}
-use Rattle.standing.proofs.Begun.{Before, begun, chained₂, drawn₁, drawn₂, extent₂, heads₂, inside₁, list₁, logged₂, outside₂, pivot-var, place₂, sized, small}
+use Rattle.standing.proofs.Begun.{Before, begun, chained₂, drawn₁, drawn₂, extent₂, heads₂, inside₁, list₁, logged₂, outside₂, pivot-var, place₂, rows-short, sized, small}
 
 module _ {N n nd size : ℕ} {l s : List ℤ} {t : Turn} {x : Outcomes.Statistics} {st : State} {rm : room.Room} {p d : ℕ} (b : Before N n nd size l s t x st rm p d) (aggressive : Bool) where
   abbrev g : Graph
@@ -60,7 +60,7 @@ module _ {N n nd size : ℕ} {l s : List ℤ} {t : Turn} {x : Outcomes.Statistic
       record {
         inv = b .inv;
         var = pivot-var b;
-        few = omega (arith, b .many, b .few);
+        few = omega (arith, b .many, rows-short b);
         flags = omega (arith, b .stands .two);
         drawn = drawn₂ b;
         marks = outside₂ b .sizes;
@@ -134,7 +134,7 @@ module _ {N n nd size : ℕ} {l s : List ℤ} {t : Turn} {x : Outcomes.Statistic
 
   pub all-light : total (weight (st .graph)) (collected (st .graph) p) ≤ 2 ^ 60
   all-light =
-      total-square n (weight g) new (omega (arith, b .many, b .few)) (distinct-collected g p)
+      total-square n (weight g) new (omega (arith, b .many, rows-short b)) (distinct-collected g p)
       (λ v m. (low v m, weight-most st (b .inv) v (collected-var (b .inv .graph) p (pivot-var b) v m)))
 
   pub weighed₃ : weighedRows n (begun b .lists) (begun b .mem) (begun b .made .start) (begun b .made .count) ≡ total (weight (st .graph)) (collected (st .graph) p)

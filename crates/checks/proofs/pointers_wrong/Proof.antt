@@ -62,21 +62,29 @@ total-is : (c : tie.After-number-at) → badTotal baseLimits (A (c .before .befo
 unfolding badOrder
 total-is c = fault-total (A (c .before .before .before .before .before .before)) (past-length (c .before .before .before .before .before)) (first-right (A (c .before .before .before .before .before .before)) (past-first (c .before .before .before))) (ap not (past-order (c .before)))
 
+most-entries-requires : tie.Need-most-entries-requires
+most-entries-requires c κs = search needs
+
+over : (c : tie.After-most-entries) → ltb (c .most-entries .result) (c .before .number-at .result) ≡ ltb (baseLimits .mostEntries) (nnz (A (c .before .before .before .before .before .before .before)))
+over c = ap (λ most. ltb most (c .before .number-at .result)) (c .most-entries .ensures) ∙ ap (ltb (baseLimits .mostEntries)) (c .before .number-at .ensures)
+
 returns-4 : tie.Need-returns-4
-unfolding badTotal baseLimits
+unfolding badTotal
 returns-4 c =
-    let a = A (c .before .before .before .before .before .before .before) in
-    ap (ltb 2000000) (c .before .number-at .ensures)
-    ∙ or-first (ltb 2000000 (nnz a)) (ltb (length (a .rows)) (nnz a)) (ap (ltb 2000000) (sym (c .before .number-at .ensures)) ∙ lt-ltb 2000000 (c .before .number-at .result) (c .if4 .taken))
-    ∙ total-is (c .before)
+    let a = A (c .before .before .before .before .before .before .before .before) in
+    over (c .before)
+    ∙ or-first (ltb (baseLimits .mostEntries) (nnz a)) (ltb (length (a .rows)) (nnz a))
+    (sym (over (c .before)) ∙ lt-ltb (c .before .most-entries .result) (c .before .before .number-at .result) (c .if4 .taken))
+    ∙ total-is (c .before .before)
 
 returns-5 : tie.Need-returns-5
-unfolding badTotal baseLimits
+unfolding badTotal
 returns-5 c =
-    let a = A (c .before .before .before .before .before .before .before) in
-    ap (ltb (length (a .rows))) (c .before .number-at .ensures)
-    ∙ or-rest (ltb 2000000 (nnz a)) (ltb (length (a .rows)) (nnz a)) (ap (ltb 2000000) (sym (c .before .number-at .ensures)) ∙ le-ltb 2000000 (c .before .number-at .result) (c .if4 .left))
-    ∙ total-is (c .before)
+    let a = A (c .before .before .before .before .before .before .before .before) in
+    ap (ltb (length (a .rows))) (c .before .before .number-at .ensures)
+    ∙ or-rest (ltb (baseLimits .mostEntries) (nnz a)) (ltb (length (a .rows)) (nnz a))
+    (sym (over (c .before)) ∙ le-ltb (c .before .most-entries .result) (c .before .before .number-at .result) (c .if4 .left))
+    ∙ total-is (c .before .before)
 
 pub pointers-wrong-spec : {M : Type 1} → statement M
 pointers-wrong-spec =
@@ -89,5 +97,6 @@ pointers-wrong-spec =
     climbing-requires
     returns-3
     number-at-requires
+    most-entries-requires
     returns-4
     returns-5)

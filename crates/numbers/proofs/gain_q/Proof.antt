@@ -1,13 +1,13 @@
 -- `numbers::gain_q` meets its contract: each operation in turn.
 -- Assumes nothing.
 use lib.Dec.{lit<}
-use Rattle.numbers.proofs.Bounds.{Bounded, bounded}
+use Rattle.numbers.proofs.Bounds.{Bounded}
 use Rattle.numbers.proofs.Signed as signed
 use Rattle.numbers.proofs.gain_q.Statement.{statement}
 use Rattle.numbers.proofs.gain_q.Tie as tie
 
 bounds : (c : tie.Start) → Bounded (c .args .f) (c .args .r)
-bounds c = bounded (c .args .f) (c .args .r) (c .pre)
+bounds c = record { sum = c .pre }
 
 cast-f : tie.Need-cast-f
 cast-f c = signed.f-fits (bounds c)

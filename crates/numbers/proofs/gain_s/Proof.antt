@@ -1,13 +1,13 @@
 -- `numbers::gain_s` meets its contract: each operation in turn.
 -- Assumes nothing.
 use lib.Dec.{lit<}
-use Rattle.numbers.proofs.Bounds.{Bounded, bounded}
+use Rattle.numbers.proofs.Bounds.{Bounded}
 use Rattle.numbers.proofs.Signed as signed
 use Rattle.numbers.proofs.gain_s.Statement.{statement}
 use Rattle.numbers.proofs.gain_s.Tie as tie
 
 bounds : (c : tie.Start) → Bounded (c .args .f) (c .args .r)
-bounds c = bounded (c .args .f) (c .args .r) (c .pre)
+bounds c = record { sum = c .pre }
 
 cast-f : tie.Need-cast-f
 cast-f c = signed.f-fits (bounds c)
@@ -39,6 +39,9 @@ sub-result-2 c = signed.less (bounds c) .fits
 mul-result-5 : tie.Need-mul-result-5
 mul-result-5 c = signed.pairs (bounds c) .fits
 
+div-result : tie.Need-div-result
+div-result c = (lit< tt, signed.half (bounds c) .fits)
+
 mul-result-6 : tie.Need-mul-result-6
 mul-result-6 c = signed.twice (bounds c) .fits
 
@@ -48,8 +51,8 @@ sub-result-3 c = signed.odd (bounds c) .fits
 mul-result-7 : tie.Need-mul-result-7
 mul-result-7 c = signed.triples (bounds c) .fits
 
-div-result : tie.Need-div-result
-div-result c = (lit< tt, signed.sixth (bounds c) .fits)
+div-result-2 : tie.Need-div-result-2
+div-result-2 c = (lit< tt, signed.sixth (bounds c) .fits)
 
 add-result-2 : tie.Need-add-result-2
 add-result-2 c = signed.s (bounds c) .fits
@@ -74,10 +77,11 @@ gain-s-spec =
     add-result
     sub-result-2
     mul-result-5
+    div-result
     mul-result-6
     sub-result-3
     mul-result-7
-    div-result
+    div-result-2
     add-result-2
     cast-result
     returns)

@@ -1,7 +1,7 @@
 -- `numbers::within` meets its contract: each float operation is exact.
 -- Assumes nothing.
 use native.Mathlib.Omega.{arith}
-use lib.Dec.{le→leb, lit<}
+use lib.Dec.{le→leb}
 use lib.Ieee.{inFloat}
 use Rattle.definition.specs.Limits.{baseLimits}
 use Rattle.numbers.proofs.Rules.{quartered}
@@ -18,10 +18,9 @@ unfolding inFloat baseLimits
 int-to-float-b c = le→leb (c .before .before .args .n) 9007199254740992 (omega arith)
 
 returns : tie.Need-returns
-unfolding baseLimits
 returns c =
     let s = c .before .before in
-    within-start (baseLimits .mostColumns) (lit< tt) (lit< tt) (s .args .x) (s .args .n) (s .pre .1) (quartered (s .args .x) (s .pre .2)) (s .args .t) (omega arith)
+    within-start (s .args .x) (s .args .n) (s .pre .1) (quartered (s .args .x) (s .pre .2)) (s .args .t) (omega arith)
 
 pub within-spec : {M : Type 1} → statement M
 within-spec = tie.close (tie.spec int-to-float-a int-to-float-b returns)
