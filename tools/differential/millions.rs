@@ -13,14 +13,24 @@ fn band(n: usize, width: usize) -> Pattern {
 }
 
 pub fn grids(_: &mut Draw, give: Give) {
-    for (m, k, storage, aggressive) in [(1_000, 1_000, Storage::Both, true), (1_414, 1_414, Storage::Both, true), (1_000, 2_000, Storage::Lower, false), (20, 100_000, Storage::Upper, true)] {
+    for (m, k, storage, aggressive) in [
+        (1_000, 1_000, Storage::Both, true),
+        (1_414, 1_414, Storage::Both, true),
+        (1_000, 2_000, Storage::Lower, false),
+        (20, 100_000, Storage::Upper, true),
+    ] {
         give(Case::new(stored(m * k, &grid(m, k), storage), 10.0, aggressive));
     }
 }
 
 // four and eight entries a row in the mean
 pub fn random(draw: &mut Draw, give: Give) {
-    for (n, degree, storage, aggressive) in [(1_000_000, 4, Storage::Both, true), (MOST, 4, Storage::Any, false), (1_000_000, 8, Storage::Mixed, false), (MOST, 8, Storage::Both, true)] {
+    for (n, degree, storage, aggressive) in [
+        (1_000_000, 4, Storage::Both, true),
+        (MOST, 4, Storage::Any, false),
+        (1_000_000, 8, Storage::Mixed, false),
+        (MOST, 8, Storage::Both, true),
+    ] {
         give(Case::new(stored(n, &drawn_graph(n, degree, draw), storage), 10.0, aggressive));
     }
 }
@@ -28,7 +38,14 @@ pub fn random(draw: &mut Draw, give: Give) {
 // Stars, one leaf below and above where the hub is dense: 14,142 neighbours at multiplier 10, 707,106 at 500, 1,414,213 at 1000, n - 2 at -1. A hub that
 // stays is read once for each pivot beside it: there the leaves stand in complete blocks, which are eliminated at once.
 pub fn stars(_: &mut Draw, give: Give) {
-    for (leaves, block, multiplier) in [(14_142, 1, 10.0), (14_143, 1, 10.0), (707_106, 50, 500.0), (707_107, 50, 500.0), (1_414_214, 1, 1000.0), (MOST - 1, 1, -1.0)] {
+    for (leaves, block, multiplier) in [
+        (14_142, 1, 10.0),
+        (14_143, 1, 10.0),
+        (707_106, 50, 500.0),
+        (707_107, 50, 500.0),
+        (1_414_214, 1, 1000.0),
+        (MOST - 1, 1, -1.0),
+    ] {
         let mut edges = star(MOST - leaves, MOST);
         for j in MOST - leaves..MOST {
             edges.extend((j - (j - (MOST - leaves)) % block..j).map(|i| (i, j)));

@@ -54,7 +54,7 @@ pub answers : map (λ l. numberOf (after l .answer)) ladder ≡ (2 ∷ 3 ∷ 4 �
 unfolding opened
 answers = refl
 
--- ---- each part of a case alone: n above 2,000,000 (at 2,000,000 the outputs are wrong); the inverse too long; a row below 0, a row that is n; the scratch one short
+-- ---- each part of a case alone: n above 2,000,000, and at it, where the outputs are wrong; the inverse too long; a row below 0, one that is n; the scratch one short
 
 abbrev single : List Lent
 single =

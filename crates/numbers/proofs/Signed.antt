@@ -1,6 +1,6 @@
 -- The operations of `gain_q` and `gain_s`: each fits 64 signed bits, and what it is as a plain number. The factor f-1 alone may be negative.
 -- Assumes nothing.
-use Prim.Native.Nat.{ℕ, _+_, _-_, _*_, _/_, _^_, _≤_, _<_}
+use Prim.Native.Nat.{ℕ, _+_, _-_, _*_, _/_, _^_, _≤_}
 use native.Mathlib.Omega.{arith}
 use mathlib.Core.Path.{_≡_, refl, sym, ap, subst}
 use lib.Dec.{T}

@@ -1,5 +1,5 @@
 -- "Every float operation needed is exact on this domain": `t² <= multiplier² · n`, in floats, says that t is at most where the threshold starts from.
--- For t and n up to the most columns: multiplier² · n is at most 2·10^12 and has four fractional bits, t² is at most 4·10^12, so that every product has at most 53 binary digits.
+-- For t and n up to the most columns: multiplier² · n is at most 2·10^12 and has four fractional bits, t² is at most 4·10^12: products of 53 binary digits at most.
 -- Assumes nothing.
 use Prim.Native.Nat.{ℕ, _+_, _*_, _^_, _≤_, _<_}
 use native.Mathlib.Nat.{le-trans, lt-of-le-of-lt, mul-one, mul-comm, mul-le-mul}
@@ -42,7 +42,8 @@ up-to-start x n s t h =
     below l (no k) = omega arith
 
 -- the range: multiplier² · n in sixteenths, and t²
-pub range : (16 * (1000 * 1000 * baseLimits .mostColumns) ≡ 16 * 2000000000000) × (2000000000000 < 2 ^ 41) × (16 * 2000000000000 < 2 ^ 53) × (baseLimits .mostColumns * baseLimits .mostColumns < 2 ^ 53)
+pub range : (16 * (1000 * 1000 * baseLimits .mostColumns) ≡ 16 * 2000000000000) × (2000000000000 < 2 ^ 41)
+    × (16 * 2000000000000 < 2 ^ 53) × (baseLimits .mostColumns * baseLimits .mostColumns < 2 ^ 53)
 unfolding baseLimits
 range = (refl, lit< tt, lit< tt, lit< tt)
 

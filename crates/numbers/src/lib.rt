@@ -235,7 +235,8 @@ fn gain_q(f: usize, r: usize) -> u64
     (f * r + (f - 1) * f / 2) as u64
 }
 
-// s = f·r² + r·(f-1)·f + (f-1)·f·(2f-1)/6, signed. The last product would not fit for the largest f: (f-1)·f is even, so it is halved first, and a third is taken at the end.
+// s = f·r² + r·(f-1)·f + (f-1)·f·(2f-1)/6, signed. The last product made whole would not fit for the largest f: (f-1)·f is even, so it is halved first,
+// and a third of the rest is taken at the end.
 fn gain_s(f: usize, r: usize) -> u64
     requires { ⌜ f + r ≤ baseLimits .mostColumns ⌝ }
     ensures { λ s. ⌜ (s ≡ gainS f r) × (s ≤ 2 ^ 62) ⌝ }

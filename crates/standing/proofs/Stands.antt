@@ -1,6 +1,6 @@
 -- One turn: the memory stands for the state before the pivot, and after the turn for the definition's next state.
 -- Assumes nothing.
-use Prim.Native.Nat.{ℕ, _+_, _*_, _≤_, _^_}
+use Prim.Native.Nat.{ℕ, _+_, _*_, _≤_}
 use native.Mathlib.Omega.{arith}
 use native.Mathlib.Nat.{mul-le-mul-left, mul-suc}
 use mathlib.Core.Bool.{Bool}

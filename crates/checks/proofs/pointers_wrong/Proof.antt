@@ -65,7 +65,8 @@ total-is c = fault-total (A (c .before .before .before .before .before .before))
 most-entries-requires : tie.Need-most-entries-requires
 most-entries-requires c κs = search needs
 
-over : (c : tie.After-most-entries) → ltb (c .most-entries .result) (c .before .number-at .result) ≡ ltb (baseLimits .mostEntries) (nnz (A (c .before .before .before .before .before .before .before)))
+over : (c : tie.After-most-entries) → ltb (c .most-entries .result) (c .before .number-at .result)
+    ≡ ltb (baseLimits .mostEntries) (nnz (A (c .before .before .before .before .before .before .before)))
 over c = ap (λ most. ltb most (c .before .number-at .result)) (c .most-entries .ensures) ∙ ap (ltb (baseLimits .mostEntries)) (c .before .number-at .ensures)
 
 returns-4 : tie.Need-returns-4
