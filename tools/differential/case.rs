@@ -63,6 +63,8 @@ impl Case {
     }
 }
 
+// of very many only the first
 pub fn words<T: ToString>(xs: &[T]) -> String {
-    xs.iter().map(|x| x.to_string()).collect::<Vec<_>>().join(" ")
+    let told = xs.iter().take(100_000).map(|x| x.to_string()).collect::<Vec<_>>().join(" ");
+    if xs.len() > 100_000 { told + " .." } else { told }
 }

@@ -1,6 +1,6 @@
 // differential PATTERNS [SEED [WORD]]: runs the proved ordering and the Rust side by side and compares all that both tell; see docs/DIFFERENTIAL.md.
-// PATTERNS is the folder tools/patterns; with WORD only the cases whose name has it. Ends with 1 where anything differs, and prints the first such
-// case in full.
+// PATTERNS is the folder tools/patterns; with WORD only the cases whose name has it, without one all but those of millions of rows, which take half an hour.
+// Ends with 1 where anything differs, and prints the first such case in full.
 mod aat;
 mod amd;
 mod amd_1;
@@ -73,8 +73,8 @@ fn main() {
         ("millions: full", &millions::full),
         ("millions: products that wrap", &millions::wraps),
     ];
-    let word = args.get(2).map_or("", |w| w);
-    for (k, (name, suite)) in suites.iter().enumerate().filter(|s| (s.1).0.contains(word)) {
+    let wanted = |name: &str| args.get(2).map_or(!name.starts_with("millions"), |word| name.contains(word.as_str()));
+    for (k, (name, suite)) in suites.iter().enumerate().filter(|s| wanted((s.1).0)) {
         tally.begin(name);
         suite(&mut Draw(seed.wrapping_mul(1_000).wrapping_add(k as u64)), &mut |case| run(&mut tally, case));
     }

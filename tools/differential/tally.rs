@@ -69,8 +69,7 @@ impl Tally {
             self.panicked("in `order`", place, case, trial.answer);
         }
         if let Some(told) = trial.wrapped {
-            let (n, nnz) = (case.n, case.rows.len());
-            self.wraps.push(format!("n {}, nnz {}\n    ours {}\n    Rust {}", n, nnz, words(&trial.statistics), words(&told)));
+            self.wraps.push(format!("n {}, {} rows stored\n    ours {}\n    Rust {}", case.n, case.rows.len(), words(&trial.statistics), words(&told)));
         }
         let line = self.lines.last_mut().unwrap();
         line.cases += 1;

@@ -13,7 +13,7 @@ pub struct Trial {
     // the Rust's panics: in the same room, and in the room that its `order` chooses
     pub panic_in_room: Option<String>,
     pub panic_in_order: Option<String>,
-    // what the Rust's statistics were before they were put right
+    // what the Rust's statistics were in the same room before they were put right
     pub wrapped: Option<[u64; 7]>,
     // of a refused case: `invalid`, `accepts` or `panics`; empty where the Rust was not run
     pub rust_says: &'static str,
@@ -58,7 +58,7 @@ impl Trial {
         let was = told.statistics;
         let told = unwrapped(told);
         if was != told.statistics {
-            self.wrapped = Some(was);
+            self.wrapped.get_or_insert(was);
         }
         self.same("jumbled", which, &[ours.jumbled], &[told.jumbled]);
         self.same("permutation", which, &ours.permutation, &told.permutation);

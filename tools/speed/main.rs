@@ -1,5 +1,5 @@
 // speed [ROUNDS]: times the exported ordering and the Rust's `order` in alternating rounds of one process, and prints a table in Markdown.
-// speed growth FILE: how time and memory grow with n; FILE is written for `speed peak FILE WHO`, which tells the memory of one run, and removed.
+// speed growth FILE: how time and memory grow with n; FILE is written for `speed alone FILE WHO`, one run in a process of its own, and removed.
 // speed once CASE WHO: one run, of `rust`, `ours` or `zeroing`, inside the function `measured`, for a counter of instructions.
 // See docs/SPEED.md.
 mod aat;
@@ -171,7 +171,7 @@ fn main() {
     let args: Vec<String> = std::env::args().skip(1).collect();
     match args.first().map_or("", |a| a) {
         "growth" => return growth::growth(&args[1]),
-        "peak" => return growth::peak(&args[1], &args[2]),
+        "alone" => return growth::alone(&args[1], &args[2]),
         "once" => return once(args[1].parse().unwrap(), &args[2]),
         _ => (),
     }

@@ -11,7 +11,7 @@ use lib.Ieee.{Float, fin}
 use Rattle.plain.specs.Lists.{every}
 use Rattle.definition.specs.Answers.{Problem, numberOf}
 use Rattle.definition.specs.Statistics.{sixOf}
-use Rattle.definition.specs.Outcome.{outcome}
+use Rattle.definition.specs.Outcome.{outcome, seven}
 use Rattle.definition.specs.Opened.{opened}
 use Rattle.definition.proofs.Problems.{problem, ten, minusZero, aQuarter, sevenOf, equal}
 
@@ -123,13 +123,10 @@ compared = refl
 
 -- ---- all rows dense: the last number of them whose product of three factors the Rust has right, the first that wraps there, and the most; docs/DIFFERENCES.md
 
-abbrev allDense : ℕ → List ℕ
-allDense nd = let x = sixOf nd [] in x .lnz ∷ x .nDiv ∷ x .nMultSubsLdl ∷ x .nMultSubsLu ∷ x .nDense ∷ x .dMax ∷ []
-
-pub wraps : map allDense (1664511 ∷ 1664512 ∷ 2000000 ∷ [])
-    ≡ ((1385297602305 ∷ 1385297602305 ∷ 768614827535966720 ∷ 1537228269774331135 ∷ 1664511 ∷ 1664511 ∷ [])
-    ∷ (1385299266816 ∷ 1385299266816 ∷ 768616212835233536 ∷ 1537231040371200256 ∷ 1664512 ∷ 1664512 ∷ [])
-    ∷ (1999999000000 ∷ 1999999000000 ∷ 1333333333333000000 ∷ 2666664666667000000 ∷ 2000000 ∷ 2000000 ∷ [])
+pub denseBlocks : map (λ nd. sevenOf (seven (sixOf nd []) 0)) (1664511 ∷ 1664512 ∷ 2000000 ∷ [])
+    ≡ ((1385297602305 ∷ 1385297602305 ∷ 768614827535966720 ∷ 1537228269774331135 ∷ 1664511 ∷ 1664511 ∷ 0 ∷ [])
+    ∷ (1385299266816 ∷ 1385299266816 ∷ 768616212835233536 ∷ 1537231040371200256 ∷ 1664512 ∷ 1664512 ∷ 0 ∷ [])
+    ∷ (1999999000000 ∷ 1999999000000 ∷ 1333333333333000000 ∷ 2666664666667000000 ∷ 2000000 ∷ 2000000 ∷ 0 ∷ [])
     ∷ [])
 unfolding opened
-wraps = refl
+denseBlocks = refl

@@ -5,12 +5,13 @@ use mathlib.Core.Path.{_≡_, refl}
 use mathlib.Core.Bool.{Bool, true, false}
 use mathlib.Core.List.{List, [], _∷_, map}
 use lib.IntN.{ℤ, pos, negsuc}
-use lib.ListN.{replicate}
+use lib.Dec.{ltb}
+use lib.ListN.{length, replicate}
 use lib.Ieee.{Float}
-use Rattle.definition.specs.Limits.{Limits, baseLimits, listsRoom, scratchRoom, roomWithin}
+use Rattle.definition.specs.Limits.{baseLimits, listsRoom, scratchRoom, roomWithin}
 use Rattle.definition.specs.Pattern.{Pattern, badLength, badFirst, badOrder, badTotal}
-use Rattle.definition.specs.Answers.{ordered, wrongRoom, numberOf, answerWithin}
-use Rattle.definition.specs.Promise.{Lent, After, problemOf, after}
+use Rattle.definition.specs.Answers.{Problem, ordered, wrongRoom, numberOf, answerOf, answerWithin}
+use Rattle.definition.specs.Promise.{Lent, problemOf, after}
 use Rattle.definition.specs.Opened.{opened}
 use Rattle.definition.proofs.Problems.{ten}
 use Rattle.definition.proofs.Thresholds.{tooLarge}
@@ -54,7 +55,7 @@ pub answers : map (λ l. numberOf (after l .answer)) ladder ≡ (2 ∷ 3 ∷ 4 �
 unfolding opened
 answers = refl
 
--- ---- each part of a case alone: n above 2,000,000, and at it, where the outputs are wrong; the inverse too long; a row below 0, one that is n; the scratch one short
+-- ---- each part of a case alone: n above 2,000,000, and at it, where the outputs are wrong; the inverse too long; a row below 0, a row n; the scratch one short
 
 abbrev single : List Lent
 single =
@@ -117,6 +118,23 @@ pub totalAlone :
     ≡ (5 ∷ 0 ∷ [])
 unfolding opened
 totalAlone = refl
+
+-- above 20,000,000 it is answer 5 whatever rows there are; at 20,000,000 the length of the row slice decides
+abbrev one : ℕ → List ℤ → Lent
+one nnz rows = lent (pos 1) (pos 0 ∷ pos nnz ∷ []) rows ten 1 1 0 0
+
+pub totalAbove : (rows : List ℤ) → numberOf (after (one 20000001 rows) .answer) ≡ 5
+unfolding opened
+totalAbove rows = refl
+
+pub totalAt : (rows : List ℤ) → badTotal baseLimits (problemOf (one 20000000 rows) .pattern) ≡ ltb (length rows) 20000000
+unfolding opened
+totalAt rows = refl
+
+-- and these are the limits that the answer goes by
+pub limited : (p : Problem) → answerOf p ≡ answerWithin baseLimits p
+unfolding opened
+limited p = refl
 
 -- ---- what is left behind
 

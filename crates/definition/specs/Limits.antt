@@ -1,4 +1,4 @@
--- The numbers of document 01 that bound a problem, as request 4 of document 02 raised them: the only place that has them. A size is a number of cells.
+-- The numbers of document 01 that bound a problem, as request 4 of document 02 raised them: the only place of the definition that has them. A size is a number of cells.
 -- Assumes nothing.
 use Prim.Native.Nat.{ℕ, _+_, _*_}
 use mathlib.Core.Bool.{Bool, _||_, cond}

@@ -1,53 +1,15 @@
--- The statistics in words of 64 bits: each product, sum and total is small enough for every accepted number of columns.
+-- The statistics in words of 64 bits: each total is small enough for every accepted number of columns, on the way and at the end.
 -- Assumes nothing.
-use Prim.Native.Nat.{ℕ, _+_, _-_, _*_, _/_, _^_, _≤_, _<_}
+use Prim.Native.Nat.{ℕ, _+_, _^_, _≤_, _<_}
 use native.Mathlib.Omega.{arith}
 use Rattle.plain.proofs.Falling.{square, triangle, square-mono, triangle-mono, sum-below, triangles-below}
-use Rattle.plain.proofs.Products.{once-most, pairs-most, rests-most, crossed-most, cubes-most, halved-most, squares-most, falls-most, sums-small, squares-small}
+use Rattle.plain.proofs.Products.{sums-small, squares-small}
 use Rattle.plain.specs.Lists.{total, itself}
 use Rattle.definition.specs.Limits.{baseLimits}
 use Rattle.definition.specs.State.{State}
 use Rattle.definition.specs.Statistics.{gainQ, gainS, gainLdl, Six}
 use Rattle.facts.proofs.Gains.{fall-Q, fall-S, fall-Ldl}
 use Rattle.facts.proofs.Totals.{Tallied, gains-so-far, Bounded}
-
--- ---- one element, with f pivots and the remaining weight r
-
-pub record Small (f r : ℕ) : Type 0 where
-  pub once : f * r < 2 ^ 63
-  pub pairs : (f - 1) * f < 2 ^ 63
-  pub rests : f * r * r < 2 ^ 63
-  pub crossed : r * (f - 1) * f < 2 ^ 63
-  -- in a word without sign
-  pub cubes : (f - 1) * f * (2 * f - 1) < 2 ^ 64
-  -- in one with a sign the product is halved first
-  pub halved : (f - 1) * f / 2 * (2 * f - 1) < 2 ^ 63
-  -- what the statistics gain
-  pub gain-q : gainQ f r < 2 ^ 63
-  pub gain-s : gainS f r < 2 ^ 63
-  pub gain-both : gainS f r + gainQ f r < 2 ^ 63
-
-pub small-words : (n f r : ℕ) → n ≤ baseLimits .mostColumns → f + r ≤ n → Small f r
-unfolding gainQ gainS baseLimits
-small-words n f r l m =
-    let N = baseLimits .mostColumns in
-    let q = falls-most N n f r l m in
-    let s = squares-most N n f r l m in
-    let a = sums-small N N (omega arith) in
-    let b = squares-small N N (omega arith) in
-    record {
-      once = omega (arith, once-most N n f r l m);
-      pairs = omega (arith, pairs-most N n f r l m);
-      rests = omega (arith, rests-most N n f r l m);
-      crossed = omega (arith, crossed-most N n f r l m);
-      cubes = omega (arith, cubes-most N n f r l m);
-      halved = omega (arith, halved-most N n f r l m);
-      gain-q = omega arith;
-      gain-s = omega arith;
-      gain-both = omega arith;
-    }
-
--- ---- the totals
 
 -- of the elements made so far
 pub record SmallTotals (nd : ℕ) (s : State) : Type 0 where

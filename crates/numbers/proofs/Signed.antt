@@ -81,7 +81,7 @@ module _ {F R : ℕ} (h : Bounds.Bounded F R) where
   less = result _-ℤ_ f-is (same (pos 1)) (Bounds.less-small F (omega (arith, Bounds.f-small h)))
 
   pub pairs : Result (pairsOf F) (pos ((F - 1) * F))
-  pairs = result-is _*ℤ_ (less .reads) f-is ((F - 1) * F) (Bounds.less-times F) (omega (arith, Bounds.gf h))
+  pairs = result-is _*ℤ_ (less .reads) f-is ((F - 1) * F) (Bounds.less-times F) (Bounds.gf h)
 
   -- ---- q
 
@@ -104,7 +104,7 @@ module _ {F R : ℕ} (h : Bounds.Bounded F R) where
   rg = result _*ℤ_ r-is (less .reads) (Bounds.times-less-small F R (omega (arith, Bounds.r-small h)) (Bounds.rg h))
 
   pub rgf : Result (mixedOf F R) (pos (R * (F - 1) * F))
-  rgf = result-is _*ℤ_ (rg .reads) f-is (R * (F - 1) * F) (Bounds.times-less-times F R) (omega (arith, Bounds.rgf h))
+  rgf = result-is _*ℤ_ (rg .reads) f-is (R * (F - 1) * F) (Bounds.times-less-times F R) (Bounds.rgf h)
 
   -- no more than all three
   pub first : Result (rd (squareOf F R) +ℤ rd (mixedOf F R)) (pos (F * R * R + R * (F - 1) * F))

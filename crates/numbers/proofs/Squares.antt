@@ -1,5 +1,5 @@
 -- "Every float operation needed is exact on this domain": `t² <= multiplier² · n`, in floats, says that t is at most where the threshold starts from.
--- For t and n up to the most columns: multiplier² · n is at most 2·10^12 and has four fractional bits, t² is at most 4·10^12: products of 53 binary digits at most.
+-- For t and n up to the most columns: multiplier² · n is at most 2·10^12 with four fractional bits, t² at most 4·10^12: 53 binary digits hold each.
 -- Assumes nothing.
 use Prim.Native.Nat.{ℕ, _+_, _*_, _^_, _≤_, _<_}
 use native.Mathlib.Nat.{le-trans, lt-of-le-of-lt, mul-one, mul-comm, mul-le-mul}

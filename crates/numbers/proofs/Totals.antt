@@ -1,16 +1,14 @@
--- The totals stay below g · N² where g pivots are gone and no element has more than N rows: so `Small`, which `with_element` asks, holds all along.
+-- The totals stay below g · N² where g pivots are gone and no element has more than N rows: so there is room for one more element all along (`within-roomy`).
 -- Assumes nothing.
-use Prim.Native.Nat.{ℕ, zero, suc, _+_, _*_, _^_, _≤_}
-use native.Mathlib.Nat.{le-refl, mul-le-mul, suc-mul, add-mul}
+use Prim.Native.Nat.{ℕ, zero, suc, _+_, _*_, _≤_}
+use native.Mathlib.Nat.{le-refl, suc-mul, add-mul}
 use native.Mathlib.Omega.{arith}
 use mathlib.Core.List.{List, [], _∷_}
 use Rattle.plain.specs.Lists.{total, itself, fallTo}
 use Rattle.plain.proofs.Falling.{square, square-mono, fall-sum, fall-squares}
 use Rattle.definition.specs.Statistics.{gainQ, gainS, gainLdl}
 use Rattle.definition.specs.Outcome as Outcomes
-use Rattle.numbers.specs.declared.Statistics.{Statistics}
-use Rattle.numbers.specs.Meaning.{statisticsMeant}
-use Rattle.numbers.specs.Gains.{begun, gained, Small, Within}
+use Rattle.numbers.specs.Gains.{begun, gained, Within}
 
 -- ---- what one element adds
 

@@ -42,7 +42,7 @@ counted count x = record {
   nCmpA = count;
 }
 
--- the same as a test
+-- whether the totals have room for one more element
 unfoldable pub roomy : Outcomes.Statistics → Bool
 roomy x = leb (x .lnz) (2 ^ 63) && leb (x .nDiv) (2 ^ 63) && leb (x .nMultSubsLdl) (2 ^ 63) && leb (x .nMultSubsLu) (2 ^ 63)
 
@@ -50,7 +50,7 @@ roomy x = leb (x .lnz) (2 ^ 63) && leb (x .nDiv) (2 ^ 63) && leb (x .nMultSubsLd
 unfoldable pub addedElement : ℕ → ℕ → Outcomes.Statistics → Outcomes.Statistics
 addedElement f r x = cond (leb (f + r) (baseLimits .mostColumns) && roomy x) (gained f r x) x
 
--- totals to which one more element can be added: a gain is at most 2 ^ 62, so that none passes 2 ^ 64
+-- the same as a fact: a gain is at most 2 ^ 62, so that no total passes 2 ^ 64
 pub record Small (s : Statistics) : Type 0 where
   pub small-lnz : s .lnz ≤ 2 ^ 63
   pub small-div : s .«n_div» ≤ 2 ^ 63
