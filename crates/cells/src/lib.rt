@@ -1,5 +1,7 @@
 // The memory of the ordering: cells of lent slices, read and written as unsigned numbers. The Rust's vectors are fields of the one scratch slice; where each
 // lies is known here alone. Where a caller shows no index, a read outside gives 0 and a store outside does nothing. The null link is n.
+#![tactic(auto)]
+
 ghost use Rattle.std.specs.Prelude.{◌≡◌, false, ◌-◌, ◌<◌, ◌≤◌, ◌^◌, length, replicate, pos};
 ghost use Rattle.std.specs.Int.Signed.{mag};
 ghost use Rattle.cells.specs.View.{at, wr, rd, up, Room, plus, negative};

@@ -1,12 +1,14 @@
 // The degree lists of the elimination: doubly linked, one for each degree, in the fields HEAD, NEXT, LAST and DEGREE of the scratch. The null link is n, where a
 // store does nothing. Nothing here asks for lists that make sense: a contract is the function's own model, and the laws of `proofs/` say what it does to the lists.
+#![tactic(auto)]
+
 ghost use Rattle.std.specs.Prelude.{◌≡◌, ◌<◌, ◌^◌};
 ghost use Rattle.cells.specs.View.{Room};
 ghost use Rattle.chain.specs.Model.{relinked, removed, headed, pushed, emptied, enlisted_one, enlisted_all};
 ghost use Rattle.chain.specs.First.{First};
 
 // A row and the degree of the list that it is the front of; the row is n where there is none.
-#[derive(Drop)]
+#[derive(Clone, Copy)]
 pub struct Pivot {
     pub me: usize,
     pub degree: usize,

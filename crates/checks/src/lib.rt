@@ -1,4 +1,6 @@
 // The checks of document 01's answer table (valid.rs, and the sizes). Every slice is lent for reading only.
+#![tactic(auto)]
+
 ghost use Rattle.std.specs.Prelude.{◌≡◌, true, false, not, ◌&&◌, ◌||◌, map, ℕ, ◌+◌, ◌<◌, ◌≤◌, ltb, eqb, pos, nat_abs, length, get_or, take};
 ghost use Rattle.std.specs.Int.Signed.{non_neg};
 ghost use Rattle.std.proofs.Math.Seq.{slice};

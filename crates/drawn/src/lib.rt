@@ -1,1 +1,2 @@
 // No code: what the memory holds of the definition's state stands in specs/, laws of it in proofs/.
+#![tactic(auto)]

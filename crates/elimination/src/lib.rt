@@ -1,5 +1,7 @@
 // The elimination: pivot after pivot, each in six steps, until every variable is eliminated; and what its elements add to the statistics.
 // Nothing here asks for a memory that makes sense, but for rows in the list space: a contract is the function's own model, and the laws of `proofs/` say what it does to the graph.
+#![tactic(auto)]
+
 ghost use Rattle.std.specs.Prelude.{◌≡◌, ◌+◌, ◌<◌, ◌^◌, max};
 ghost use Rattle.cells.specs.View.{Room, plus};
 ghost use Rattle.cells.specs.Rows.{Rows};
@@ -10,7 +12,7 @@ ghost use Rattle.elimination.specs.Runs.{Turned, Ran, Whole};
 
 // What a pivot takes over from the one before: how many variables are gone, the least degree, the flag, the largest remaining weight of an element, the merges
 // in the log, where the elements made at the free end begin, the free end, how many are made there, and the collections so far.
-#[derive(Drop)]
+#[derive(Clone, Copy)]
 pub struct Turn {
     pub gone: usize,
     pub least: usize,
@@ -26,7 +28,7 @@ pub struct Turn {
 // ---- steps 3 to 5
 
 // The weight of the new element without the rows eliminated with the pivot, and how many merges are logged.
-#[derive(Drop)]
+#[derive(Clone, Copy)]
 pub struct Reduced {
     pub size: usize,
     pub merges: usize,
@@ -71,7 +73,7 @@ fn raise_flag(flag: usize, most: usize) -> usize
 }
 
 // The weight of the new element, and what it makes of the numbers that the next pivot takes over.
-#[derive(Drop)]
+#[derive(Clone, Copy)]
 pub struct Met {
     pub size: usize,
     pub most: usize,
@@ -263,7 +265,7 @@ fn count_element(
 // ---- the loop
 
 // The numbers of the turn, and the statistics so far.
-#[derive(Drop)]
+#[derive(Clone, Copy)]
 pub struct Work {
     pub turn: Turn,
     pub statistics: numbers::Statistics,
@@ -340,7 +342,7 @@ fn first_turn(roots: usize, dense: usize, free: usize) -> Turn
 }
 
 // The statistics of all elements, and how many merges are logged.
-#[derive(Drop)]
+#[derive(Clone, Copy)]
 pub struct Eliminated {
     pub statistics: numbers::Statistics,
     pub merges: usize,

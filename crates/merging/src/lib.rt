@@ -1,6 +1,8 @@
 // Step 5 of a pivot: the rows of the new element that have one key stand in one bucket, linked newest first; of those, each is compared with the ones behind it, and
 // takes those that have its list. A walk along links makes at most as many turns as the new element has rows, so that it ends in any memory.
 // Nothing here asks for a memory that makes sense, but for rows in the list space: a contract is the function's own model, and the laws of `proofs/` say what it does to the graph.
+#![tactic(auto)]
+
 ghost use Rattle.std.specs.Prelude.{◌≡◌, ◌<◌, ◌^◌, length};
 ghost use Rattle.cells.specs.View.{Room, at, up};
 ghost use Rattle.cells.specs.Rows.{Rows};
@@ -8,7 +10,7 @@ ghost use Rattle.cells.specs.Layout.{W};
 ghost use Rattle.merging.specs.Model.{Bounded, Slight, comparing, merging, marking, marked_list, all_marked, tail_marked, same_elements, alike_now, weighed, left, joined, taken_next, compared, merged_into, merged_at, bucket_run, merged_key, merged_row, merged_rows};
 
 // Where a walk along a bucket stands: the row before the next one, the next one, and how many merges are logged.
-#[derive(Drop)]
+#[derive(Clone, Copy)]
 pub struct Walk {
     pub last: usize,
     pub next: usize,
@@ -16,7 +18,7 @@ pub struct Walk {
 }
 
 // The flag to mark with, and how many merges are logged.
-#[derive(Drop)]
+#[derive(Clone, Copy)]
 pub struct Tally {
     pub flag: usize,
     pub logged: usize,

@@ -1,4 +1,6 @@
 // What speaks of numbers only: the settings and the dense rule read from them, the answers, the threshold, the statistics.
+#![tactic(auto)]
+
 ghost use Rattle.std.specs.Prelude.{◌≡◌, false, [], ◌+◌, ◌<◌, ◌≤◌, ◌^◌, min, max, leb, pos};
 ghost use Rattle.std.proofs.Math.Option.{some};
 ghost use Rattle.plain.specs.Lists.{is_none};
@@ -10,20 +12,20 @@ ghost use Rattle.definition.specs.Outcome.{seven, refused};
 ghost use Rattle.numbers.specs.Meaning.{answer_meant, rule_meant, Accepted, statistics_meant, outcome_meant};
 ghost use Rattle.numbers.specs.Gains.{begun, gained, roomy, added_element, counted, Small};
 
-#[derive(Drop)]
+#[derive(Clone, Copy)]
 pub struct Settings {
     pub multiplier: f64,
     pub aggressive: bool,
 }
 
 // The dense rule read from the settings.
-#[derive(Drop)]
+#[derive(Clone, Copy)]
 pub enum DenseRule {
     FullRows,
     Multiplier(f64),
 }
 
-#[derive(Drop)]
+#[derive(Clone, Copy)]
 pub enum Answer {
     Ordered,
     OrderedJumbled,
@@ -35,7 +37,7 @@ pub enum Answer {
     WrongRoom,
 }
 
-#[derive(Drop)]
+#[derive(Clone, Copy)]
 pub struct Statistics {
     pub lnz: u64,
     pub n_div: u64,
@@ -46,7 +48,7 @@ pub struct Statistics {
     pub n_cmp_a: u64,
 }
 
-#[derive(Drop)]
+#[derive(Clone, Copy)]
 pub struct Outcome {
     pub answer: Answer,
     pub statistics: Statistics,

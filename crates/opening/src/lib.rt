@@ -1,6 +1,8 @@
 // From the built lists to the first pivot, and from a pivot's choice to its gathered element. Every row begins as a variable of weight 1 in the list of its degree;
 // a row without neighbours is an element at once, and a dense row leaves. Then, for each pivot, its new element is gathered, whose rows leave their degree lists, and
 // its elements are taken up by it. A contract is the function's own model, and the laws of `proofs/` say what it does.
+#![tactic(auto)]
+
 ghost use Rattle.std.specs.Prelude.{◌≡◌, ◌<◌, ◌^◌};
 ghost use Rattle.cells.specs.View.{Room, up};
 ghost use Rattle.cells.specs.Rows.{Rows};
@@ -75,7 +77,7 @@ fn set_dense(s: &mut [i64], n: usize, i: usize)
 }
 
 // The rows that are no variables from the start: those without neighbours, and the dense ones.
-#[derive(Drop)]
+#[derive(Clone, Copy)]
 pub struct Aside {
     pub roots: usize,
     pub dense: usize,

@@ -17,7 +17,7 @@ foldl_append f b (x ∷ xs) ys = foldl_append f (f b x) xs ys
 pub after_is : (X : ℕ → List ℕ) (c : ℕ) (es : List ℕ) → after_parts X c es ≡ c + length es + total (λ e. length (X e)) es
 unfolding after_parts total
 after_is X c [] = omega arith
-after_is X c (e ∷ es) = after_is X _ es ∙ omega arith
+after_is X c (e ∷ es) = after_is X (suc c + length (X e)) es ∙ omega arith
 
 -- ---- what is read
 

@@ -1,5 +1,7 @@
 // Lists packed into one lent space, their collection to the space's beginning, and the list of a new element gathered from others, whose rows leave their degree lists.
 // Nothing here asks for a memory that makes sense, but for rows in the list space and in the scratch table: a contract is the function's own model, and the laws of `proofs/` say what it does to the lists.
+#![tactic(auto)]
+
 ghost use Rattle.std.specs.Prelude.{◌≡◌, ◌+◌, ◌^◌, ◌<◌, length};
 ghost use Rattle.cells.specs.View.{Room, at};
 ghost use Rattle.cells.specs.Rows.{Rows};
@@ -9,7 +11,7 @@ ghost use Rattle.packed.specs.Tray.{Tabled, wanted, taking, counted, took_row, t
 ghost use Rattle.packed.specs.Gather.{cleared, collected_rest, made_room, outside, Brief, summed, gathered_outside, inside, gathered_inside};
 
 // The end of the lists that go by number, and the end of all.
-#[derive(Drop)]
+#[derive(Clone, Copy)]
 pub struct Ends {
     pub base: usize,
     pub end: usize,
@@ -153,7 +155,7 @@ pub fn enter(lists: &mut [i64], s: &mut [i64], n: usize, cnt: usize, j: usize, e
 // ---- a gather: numbers go from lists into the scratch table and out of their degree lists, no list moving
 
 // The numbers in the table, the entries read, and how many had been read with the entry that found no place (0: each found one).
-#[derive(Drop)]
+#[derive(Clone, Copy)]
 pub struct Tray {
     pub cnt: usize,
     pub reads: usize,
@@ -299,7 +301,7 @@ pub fn take_elements(
 }
 
 // A part of the list space.
-#[derive(Drop)]
+#[derive(Clone, Copy)]
 pub struct Part {
     pub from: usize,
     pub len: usize,
@@ -397,7 +399,7 @@ pub fn make_room(
 }
 
 // A new element: its place and length, the free end behind it, and whether a collection happened (1) or not (0).
-#[derive(Drop)]
+#[derive(Clone, Copy)]
 pub struct Made {
     pub start: usize,
     pub count: usize,

@@ -1,5 +1,7 @@
 // The pattern that is ordered, in the scratch (preprocess.rs), and A+A' in the list space (aat.rs and the first half of amd_1.rs). What the Rust counts first
 // and writes then is here one pass, done twice: with every cursor at 0 it counts, and from each list's place it writes. What the first one stores is stored over.
+#![tactic(auto)]
+
 ghost use Rattle.std.specs.Prelude.{◌≡◌, ◌+◌, ◌-◌, ◌<◌, ◌≤◌, ◌^◌};
 ghost use Rattle.cells.specs.View.{at, rd, Room};
 ghost use Rattle.cells.specs.Rows.{Rows};

@@ -1,5 +1,7 @@
 // Step 6 of the elimination: the survivors of a new element get their degrees and go to the front of their lists, and the pivot's row becomes the element.
 // Nothing here asks for a memory that makes sense, but for rows in the list space: a contract is the function's own model, and the laws of `proofs/` say what it does to the graph.
+#![tactic(auto)]
+
 ghost use Rattle.std.specs.Prelude.{◌≡◌, ◌<◌, ◌≤◌, ◌^◌, min, length};
 ghost use Rattle.cells.specs.View.{Room, at};
 ghost use Rattle.cells.specs.Rows.{Rows};
@@ -8,14 +10,14 @@ ghost use Rattle.packed.specs.Gather.{cut, kept_one, kept_part};
 ghost use Rattle.placing.specs.Model.{degree_of, spot, placed_row, placed_one, placed_all, sealed, marked, finished};
 
 // How many rows survive in the new element, and the least degree.
-#[derive(Drop)]
+#[derive(Clone, Copy)]
 pub struct Restored {
     pub count: usize,
     pub least: usize,
 }
 
 // Where the survivors so far end, and the least degree so far.
-#[derive(Drop)]
+#[derive(Clone, Copy)]
 pub struct Reached {
     pub end: usize,
     pub least: usize,

@@ -111,8 +111,8 @@ module _ {A : Type 0} where
       rw (entries_out F (p + 0) x (suc p) k (inl z), e, upd_same F p x)
   entries_set F x p (suc k) (suc t) h =
       let e : p + suc t ≡ suc p + t = omega arith in
-      rw (upd_other F (p + suc t) x p (omega arith), e)
-      (ap (λ (y : List A). F p ∷ y) (entries_set F x (suc p) k t (omega arith)))
+      rw (upd_other F (p + suc t) x p (omega arith))
+      (ap (λ (y : List A). F p ∷ y) (ap (λ (j : ℕ). entries (upd F j x) (suc p) k) e ∙ entries_set F x (suc p) k t (omega arith)))
 
 -- a list by its places
 pub counted_whole : {A : Type 0} (l : List A) (d : A) → map (λ i. get_or l i d) (count_up 0 (length l)) ≡ l

@@ -1,1 +1,2 @@
 // No code: the words for plain lists stand in specs/, their laws in proofs/.
+#![tactic(auto)]

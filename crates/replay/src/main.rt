@@ -4,6 +4,7 @@
 //
 // A case is numbers: n; the multiplier as a quotient of two; aggressive as 0 or 1; the lengths of permutation, inverse, lists and scratch; the number of
 // pointers and that of rows; then these. The slices that are lent start full of FILL.
+#![tactic(auto)]
 ghost use Rattle.std.specs.Prelude.{◌≡◌, ◌≤◌, length};
 ghost use Rattle.replay.specs.Fitting.{Fitting};
 
@@ -26,7 +27,7 @@ const MOST_NUMBERS: usize = 49152;
 // The numbers that stand before a case's pointers.
 const HEAD: usize = 10;
 
-#[derive(Drop)]
+#[derive(Clone, Copy)]
 struct Lengths {
     permutation: usize,
     inverse: usize,

@@ -1,6 +1,8 @@
 // Step 3 of the elimination: the external sizes of the elements that the rows of the new element have, by counters in the marks. A mark at the flag or above
 // is a counter: the flag, and what is left of the element's weight. A mark below it is no counter yet; 0 is an element that is no more.
 // Nothing here asks for a memory that makes sense, but for rows in the list space: a contract is the function's own model, and the laws of `proofs/` say what it finds.
+#![tactic(auto)]
+
 ghost use Rattle.std.specs.Prelude.{◌≡◌, ◌+◌, ◌^◌, ◌<◌, ◌≤◌, length};
 ghost use Rattle.cells.specs.Layout.{NV};
 ghost use Rattle.cells.specs.View.{Room, at, rd};

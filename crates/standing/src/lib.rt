@@ -1,1 +1,2 @@
 // No code: that the elimination in memory is the definition's, turn by turn, stands in proofs/.
+#![tactic(auto)]

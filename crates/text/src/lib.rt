@@ -1,5 +1,6 @@
 // Decimal numbers as text: read from bytes, and written. A number is a minus sign or none, then digits; white space stands between two numbers.
 // What is read is promised whole (`read_numbers`). No contract can say what is written: the functions that write are proved safe and ending.
+#![tactic(auto)]
 ghost use Rattle.std.specs.Prelude.{◌≡◌, ◌≤◌, ◌<◌, ◌^◌, pos, ◌-ℤ◌, length};
 ghost use Rattle.std.specs.Int.{w32};
 ghost use Rattle.std.proofs.Common.{SFits};
@@ -7,7 +8,7 @@ ghost use Rattle.text.specs.Numerals.{blank, longer, with_digit, with_other, gro
 
 use libc::STDOUT_FILENO;
 
-#[derive(Drop)]
+#[derive(Clone, Copy)]
 pub enum Fault {
     NotNumber,
     TooLarge,
@@ -15,7 +16,7 @@ pub enum Fault {
 }
 
 // What the bytes read so far end in; a number that is open has its sign and its digits' value.
-#[derive(Drop)]
+#[derive(Clone, Copy)]
 pub enum Place {
     Between,
     Minus,
@@ -24,13 +25,13 @@ pub enum Place {
 }
 
 // So many numbers, and where the text stands behind them.
-#[derive(Drop)]
+#[derive(Clone, Copy)]
 pub struct Scan {
     pub count: usize,
     pub place: Place,
 }
 
-#[derive(Drop)]
+#[derive(Clone, Copy)]
 pub enum Reading {
     Numbers(usize),
     Failed(Fault),

@@ -1,6 +1,8 @@
 // What comes after the elimination (post_tree.rs, postorder.rs, the end of amd_2.rs): each merged row finds its element; what hangs under a row is put into a
 // list, the other children before the largest and merged rows behind it; and one walk by an explicit stack writes the permutation and its inverse.
 // The roots, and behind them the dense rows, hang under n, which is no row.
+#![tactic(auto)]
+
 ghost use Rattle.std.specs.Prelude.{◌≡◌, ◌<◌, ◌≤◌, ◌^◌};
 ghost use Rattle.cells.specs.Links.{linked, parent};
 ghost use Rattle.cells.specs.View.{Room, rd, up};
@@ -184,7 +186,7 @@ fn prepare(s: &mut [i64], n: usize)
 // ---- the walk
 
 // The row that comes next, or one that is none; how many rows the stack has; how many have their place.
-#[derive(Drop)]
+#[derive(Clone, Copy)]
 pub struct Walk {
     pub row: usize,
     pub depth: usize,

@@ -1,5 +1,7 @@
 // Step 4 of the elimination: what each row of the new element keeps of its list, the elements that are taken up, the rows that are eliminated with the pivot,
 // and the buckets of the rest by their keys. A contract is the function's own model; the laws of `proofs/` say what it does to the lists.
+#![tactic(auto)]
+
 ghost use Rattle.std.specs.Prelude.{◌≡◌, ◌+◌, ◌^◌, ◌<◌, ◌≤◌, ◌&&◌, length, ◌==◌};
 ghost use Rattle.cells.specs.View.{Room, wr};
 ghost use Rattle.cells.specs.Rows.{Rows};
@@ -8,7 +10,7 @@ ghost use Rattle.trimming.specs.Model.{Grown, counted, keeping, kept_live, kept_
 // ---- what is kept
 
 // Of a list: the place behind what is kept, the one behind the elements of it (once they are done), the sum of their sizes and weights, and the sum of their numbers.
-#[derive(Drop)]
+#[derive(Clone, Copy)]
 pub struct Kept {
     pub elements: usize,
     pub end: usize,
@@ -204,7 +206,7 @@ pub fn bury(s: &mut [i64], n: usize, me: usize, i: usize, made: usize)
 }
 
 // The weight merged into the pivot so far, and the rows in the log.
-#[derive(Drop)]
+#[derive(Clone, Copy)]
 pub struct Merged {
     pub weight: usize,
     pub made: usize,

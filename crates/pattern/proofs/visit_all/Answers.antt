@@ -1,0 +1,14 @@
+use borrow.Author.Rules.{rules}
+use Rattle.pattern.specs.Model.{visited_all}
+use Rattle.plain.proofs.Turns.{begin, turn, finish}
+use Rattle.pattern.proofs.visit_all.Goals as goal
+
+pub loop-j-init : goal.loop-j-init
+loop-j-init c = search (rules, begin)
+
+pub loop-j-preserved : goal.loop-j-preserved
+loop-j-preserved c = search (rules, turn)
+
+pub returns : goal.returns
+unfolding visited_all
+returns c = search (rules, finish)
