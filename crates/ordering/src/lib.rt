@@ -1,5 +1,6 @@
 // The ordering of a pattern: its promise is that of the definition, for all inputs.
 #![tactic(auto)]
+
 ghost use Rattle.std.specs.Prelude.{◌≡◌, true, false, ◌+◌, ◌*◌, ◌<◌, ◌≤◌, ◌^◌, min, eqb, length};
 ghost use Rattle.plain.specs.Lists.{is_none};
 ghost use Rattle.definition.specs.Limits.{base_limits, lists_room, scratch_room, room_within};
