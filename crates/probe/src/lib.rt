@@ -1,5 +1,6 @@
 // The ordering for a host in Rust or C, as the tools that compare and time it call it: numbers and lent slices, the statistics in cells.
 #![tactic(auto)]
+
 ghost use Rattle.std.specs.Prelude.{◌≡◌, set};
 ghost use Rattle.definition.specs.Promise.{after};
 ghost use Rattle.numbers.specs.Meaning.{statistics_meant};
