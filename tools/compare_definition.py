@@ -296,27 +296,23 @@ def neighbour_lists(columns):
 
 # ---- in antt
 
-MULTIPLIERS = {"10": "ten", "-1": "minusOne", "0": "(fin false 0 (pos 0))", "0.25": "aQuarter", "-0": "minusZero"}
+MULTIPLIERS = {"10": "ten", "-1": "minus_one", "0": "(fin false 0 (pos 0))", "0.25": "a_quarter", "-0": "minus_zero"}
 
 # of a module: its first lines, the type of a case, the test, and what is opened for it
 Sheet = collections.namedtuple("Sheet", "head case test opened")
 
-HEAD = """use Prim.Native.Nat.{ℕ}
-use mathlib.Core.Path.{_≡_, refl}
-use mathlib.Core.Bool.{Bool, true, false, _&&_}
-use mathlib.Core.List.{List, [], _∷_}
-use lib.IntN.{pos}
+HEAD = """use Rattle.std.proofs.Common.{◌≡◌, ℕ, Bool, true, false, ◌&&◌, List, [], ◌∷◌, pos, refl}
 use lib.Ieee.{fin}
-use Rattle·plain.specs.Lists.{every}
-use Rattle·definition.specs.Opened.{opened}
-use Rattle·definition.proofs.Problems.{ten, minusOne, minusZero, aQuarter, equal}
+use Rattle.plain.specs.Lists.{every}
+use Rattle.definition.specs.Opened.{opened}
+use Rattle.definition.proofs.Problems.{ten, minus_one, minus_zero, a_quarter, equal}
 """
 
-OUTCOMES = Sheet(HEAD + "use Rattle·definition.proofs.Compared.{Case, case, agrees}\n", "Case", "agrees", "opened agrees equal")
-LISTS = Sheet(HEAD + "use Rattle·comparison·proofs.proofs.Listed.{Listed, listed, equalAll, alike}\n", "Listed", "alike", "opened alike equalAll equal")
+OUTCOMES = Sheet(HEAD + "use Rattle.definition.proofs.Compared.{Case, case, agrees}\n", "Case", "agrees", "opened agrees equal")
+LISTS = Sheet(HEAD + "use Rattle.comparison.proofs.Listed.{Listed, listed, equal_all, alike}\n", "Listed", "alike", "opened alike equal_all equal")
 
-LISTED = HEAD + """use Rattle·definition.specs.Cleaned.{cleaned}
-use Rattle·definition.specs.Neighbours.{neighbours}
+LISTED = HEAD + """use Rattle.definition.specs.Cleaned.{cleaned}
+use Rattle.definition.specs.Neighbours.{neighbours}
 
 pub record Listed : Type 0 where
   pub columns : List (List ℕ)
@@ -325,14 +321,14 @@ pub record Listed : Type 0 where
 abbrev pub listed : List (List ℕ) → List (List ℕ) → Listed
 listed columns lists = record { columns = columns; lists = lists }
 
-unfoldable pub equalAll : List (List ℕ) → List (List ℕ) → Bool
-equalAll [] [] = true
-equalAll [] (y ∷ ys) = false
-equalAll (x ∷ xs) [] = false
-equalAll (x ∷ xs) (y ∷ ys) = equal x y && equalAll xs ys
+unfoldable pub equal_all : List (List ℕ) → List (List ℕ) → Bool
+equal_all [] [] = true
+equal_all [] (y ∷ ys) = false
+equal_all (x ∷ xs) [] = false
+equal_all (x ∷ xs) (y ∷ ys) = equal x y && equal_all xs ys
 
 unfoldable pub alike : Listed → Bool
-alike c = equalAll (neighbours (cleaned (c .columns))) (c .lists)
+alike c = equal_all (neighbours (cleaned c.columns)) c.lists
 """
 
 
@@ -375,7 +371,7 @@ def check(repository, modules):
         (proofs / f"{name}.antt").write_text(module(sheet, entries))
     (proofs / "Lib.antt").write_text("".join(f"pub mod {name}\n" for name in ["Listed", *modules]))
     done = subprocess.run(["rt", "check", "comparison"], cwd=repository, stdout=subprocess.PIPE, stderr=subprocess.STDOUT, text=True)
-    failed = set(re.findall(r"crates/comparison/proofs/(\w+)\.antt:\d+:\d+: error", done.stdout))
+    failed = set(re.findall(r"proofs/(\w+)\.antt:\d+:\d+: error", done.stdout))
     if done.returncode and not failed & set(modules):
         sys.exit(done.stdout)
     return failed
@@ -393,9 +389,9 @@ def disagreeing(repository, modules):
 def lay_out(repository):
     for name in ["plain", "definition"]:
         shutil.rmtree(repository / "crates" / name, ignore_errors=True)
-        shutil.copytree(CRATES / name, repository / "crates" / name)
+        shutil.copytree(CRATES / name, repository / "crates" / name, ignore=shutil.ignore_patterns("out", "must-fail"))
     (repository / "crates" / "comparison" / "src").mkdir(parents=True, exist_ok=True)
-    (repository / "crates" / "comparison" / "src" / "lib.rt").write_text("// No code: the comparisons stand in proofs/.\n")
+    (repository / "crates" / "comparison" / "src" / "lib.rt").write_text("// No code: the comparisons stand in proofs/.\n#![tactic(auto)]\n")
     (repository / "crates.txt").write_text("plain:\ndefinition: plain\ncomparison: plain definition\n")
 
 

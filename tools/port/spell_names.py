@@ -13,7 +13,8 @@ import sys
 
 HERE = os.path.dirname(os.path.realpath(__file__))
 NAME = re.compile(r"[A-Za-z_][\w'₀-₉?]*(?:-[\w'₀-₉?]+)*")
-DECLARED = re.compile(r"^\s*(?:(?:pub|abbrev|unfoldable|data|record|mutual)\s+)*([^\s(){}]+)\s*:", re.M)
+DECLARED = re.compile(r"^\s*(?:(?:pub|abbrev|unfoldable|data|record|mutual)\s+)*([^\s(){}:]+(?: [^\s(){}:]+)*)\s*:", re.M)
+BOUND = re.compile(r"[({]([^(){}:λ.]+) : ")
 IMPORT = re.compile(r"use\s+([\w.'-]+)\.\{([^}]*)\}")
 MADE = {"tie", "reads", "lts", "goal", "walk"}
 
@@ -36,7 +37,9 @@ def code(path, text):
 
 
 def declared(path, text):
-    return set(DECLARED.findall(code(path, text))) if path.endswith(".antt") and not path.endswith("/Proof.antt") else set()
+    if not path.endswith(".antt") or re.search(r"/proofs/\w+/(?:Proof|Answers|Invariants)\.antt$", path):
+        return set()
+    return {n for names in DECLARED.findall(code(path, text)) + BOUND.findall(code(path, text)) for n in names.split()}
 
 
 def own_library(module):

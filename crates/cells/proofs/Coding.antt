@@ -10,7 +10,7 @@ use borrow.Author.Tests.{lt-ltb, le-ltb}
 use lib.Dec.{T}
 use lib.IntN.{ℤ, pos, negsuc, nat_abs, ◌-ℤ◌}
 use lib.Signed.{mag, lt_z, non_neg}
-use lib.ListN.{get_or, set, length-set}
+use lib.ListN.{get_or, set}
 use mir.Syntax.{w64}
 use mir.Val.{to_z, of_z, SFits}
 use mir.Facts.{to_z_pos, to_z-of_z}

@@ -47,7 +47,7 @@ chained_alike {r = r} h a = chained_same h r a.head a.next a.last a.degree
 
 -- ---- the same store in both
 
-module _ (n : ℕ) (s r : List ℤ) (room-s : Room n s) (room-r : Room n r) where
+module _ (n : ℕ) (s r : List ℤ) (room_s : Room n s) (room_r : Room n r) where
   same_up : (f i v : ℕ) → ltb f 15 ≡ true → (g j : ℕ) → rd n g r j ≡ rd n g s j → rd n g (up n f r i v) j ≡ rd n g (up n f s i v) j
   same_up f i v low g j e = by (same? f g) (same? i j) (split i n)
     where
@@ -55,7 +55,7 @@ module _ (n : ℕ) (s r : List ℤ) (room-s : Room n s) (room-r : Room n r) wher
       by (inr d) y z = rd_up_other n f r i v g j (λ a b. d a) ∙ e ∙ sym (rd_up_other n f s i v g j (λ a b. d a))
       by (inl x) (inr d) z = rd_up_other n f r i v g j (λ a b. d b) ∙ e ∙ sym (rd_up_other n f s i v g j (λ a b. d b))
       by (inl x) (inl y) (inl z) =
-          rw (← x, ← y) (rd_up_hit n f r i v low (room_yes n r room-r) (lt-ltb i n z) ∙ sym (rd_up_hit n f s i v low (room_yes n s room-s) (lt-ltb i n z)))
+          rw (← x, ← y) (rd_up_hit n f r i v low (room_yes n r room_r) (lt-ltb i n z) ∙ sym (rd_up_hit n f s i v low (room_yes n s room_s) (lt-ltb i n z)))
       by (inl x) (inl y) (inr z) = rw (up_null n f r i v (ltb-true f 15 low) z, up_null n f s i v (ltb-true f 15 low) z) e
 
   up_alike : (f i v : ℕ) → ltb f 15 ≡ true → Alike n s r → Alike n (up n f s i v) (up n f r i v)
@@ -78,11 +78,11 @@ module _ (n : ℕ) (s r : List ℤ) (room-s : Room n s) (room-r : Room n r) wher
 
 pub removed_alike : (n : ℕ) (s r : List ℤ) (i : ℕ) → Room n s → Room n r → Alike n s r → Alike n (removed n s i) (removed n r i)
 unfolding removed
-removed_alike n s r i room-s room-r h =
+removed_alike n s r i room_s room_r h =
     let b = rd n LAST s i in
     let a = rd n NEXT s i in
     rw (h.last i, h.next i)
-    (relinked_alike n (up n LAST s a b) (up n LAST r a b) (room_up n LAST s a b room-s) (room_up n LAST r a b room-r) i b a (up_alike n s r room-s room-r LAST a b refl h))
+    (relinked_alike n (up n LAST s a b) (up n LAST r a b) (room_up n LAST s a b room_s) (room_up n LAST r a b room_r) i b a (up_alike n s r room_s room_r LAST a b refl h))
 
 pub fold_room : (n : ℕ) (vs : List ℕ) (s : List ℤ) → Room n s → Room n (foldl (λ m v. removed n m v) s vs)
 fold_room n [] s h = h
@@ -90,6 +90,6 @@ fold_room n (v ∷ vs) s h = fold_room n vs (removed n s v) (removed_room n s v 
 
 pub fold_alike : (n : ℕ) (vs : List ℕ) (s r : List ℤ) → Room n s → Room n r → Alike n s r
     → Alike n (foldl (λ m v. removed n m v) s vs) (foldl (λ m v. removed n m v) r vs)
-fold_alike n [] s r room-s room-r h = h
-fold_alike n (v ∷ vs) s r room-s room-r h =
-    fold_alike n vs (removed n s v) (removed n r v) (removed_room n s v room-s) (removed_room n r v room-r) (removed_alike n s r v room-s room-r h)
+fold_alike n [] s r room_s room_r h = h
+fold_alike n (v ∷ vs) s r room_s room_r h =
+    fold_alike n vs (removed n s v) (removed n r v) (removed_room n s v room_s) (removed_room n r v room_r) (removed_alike n s r v room_s room_r h)

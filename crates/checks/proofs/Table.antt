@@ -13,7 +13,7 @@ use Rattle.plain.specs.Lists.{is_none, rises}
 use Rattle.definition.specs.Limits.{base_limits, outside, lists_room, scratch_room}
 use Rattle.definition.specs.Threshold.{rule_of}
 use Rattle.definition.specs.Pattern.{Pattern, column_count, nnz, pointer, column, columns, jumbled, bad_count, bad_pointers, bad_rows}
-use Rattle.definition.specs.Answers.{Answer, ordered, orderedJumbled, wrongCount, wrongMultiplier, wrongOutputs, wrongPointers, wrongRows, wrongRoom, Problem, bad_multiplier, bad_outputs, bad_room, checks, first_of, answer_within, answer_of}
+use Rattle.definition.specs.Answers.{Answer, ordered, ordered_jumbled, wrong_count, wrong_multiplier, wrong_outputs, wrong_pointers, wrong_rows, wrong_room, Problem, bad_multiplier, bad_outputs, bad_room, checks, first_of, answer_within, answer_of}
 use Rattle.definition.specs.Promise.{Lent, problem_of}
 use Rattle.checks.specs.Given.{pattern_given, problem_given, pattern_checks}
 use Rattle.checks.proofs.Pending.{columns_on, columns_first}
@@ -65,19 +65,19 @@ module _ (a : Pattern) (lists scratch : ℕ) where
   pub short_is : (k : ℕ) (r : Bool) → k ≡ nnz a → r ≡ ltb lists (lists_room (column_count a) k) || ltb scratch (scratch_room (column_count a) k) → r ≡ short
   short_is k r e f = rw (← e) f
 
-  pub line_pointers : bad_pointers base_limits a ≡ true → wrongPointers ≡ first_of (pattern_checks a lists scratch)
+  pub line_pointers : bad_pointers base_limits a ≡ true → wrong_pointers ≡ first_of (pattern_checks a lists scratch)
   unfolding pattern_checks first_of
   line_pointers e = rw e
 
-  pub line_rows : bad_pointers base_limits a ≡ false → bad_rows a ≡ true → wrongRows ≡ first_of (pattern_checks a lists scratch)
+  pub line_rows : bad_pointers base_limits a ≡ false → bad_rows a ≡ true → wrong_rows ≡ first_of (pattern_checks a lists scratch)
   unfolding pattern_checks first_of
   line_rows e f = rw (e, f)
 
-  pub line_room : bad_pointers base_limits a ≡ false → bad_rows a ≡ false → short ≡ true → wrongRoom ≡ first_of (pattern_checks a lists scratch)
+  pub line_room : bad_pointers base_limits a ≡ false → bad_rows a ≡ false → short ≡ true → wrong_room ≡ first_of (pattern_checks a lists scratch)
   unfolding pattern_checks first_of
   line_room e f g = rw (e, f, g)
 
-  pub line_jumbled : bad_pointers base_limits a ≡ false → bad_rows a ≡ false → short ≡ false → jumbled (columns a) ≡ true → orderedJumbled ≡ first_of (pattern_checks a lists scratch)
+  pub line_jumbled : bad_pointers base_limits a ≡ false → bad_rows a ≡ false → short ≡ false → jumbled (columns a) ≡ true → ordered_jumbled ≡ first_of (pattern_checks a lists scratch)
   unfolding pattern_checks first_of
   line_jumbled e f g h = rw (e, f, g, h)
 
@@ -88,15 +88,15 @@ module _ (a : Pattern) (lists scratch : ℕ) where
 -- ---- the whole table
 
 module _ (p : Problem) where
-  pub line_count : bad_count base_limits p.pattern ≡ true → wrongCount ≡ answer_of p
+  pub line_count : bad_count base_limits p.pattern ≡ true → wrong_count ≡ answer_of p
   unfolding answer_of answer_within checks first_of
   line_count e = rw e
 
-  pub line_multiplier : bad_count base_limits p.pattern ≡ false → bad_multiplier p ≡ true → wrongMultiplier ≡ answer_of p
+  pub line_multiplier : bad_count base_limits p.pattern ≡ false → bad_multiplier p ≡ true → wrong_multiplier ≡ answer_of p
   unfolding answer_of answer_within checks first_of
   line_multiplier e f = rw (e, f)
 
-  pub line_outputs : bad_count base_limits p.pattern ≡ false → bad_multiplier p ≡ false → bad_outputs p ≡ true → wrongOutputs ≡ answer_of p
+  pub line_outputs : bad_count base_limits p.pattern ≡ false → bad_multiplier p ≡ false → bad_outputs p ≡ true → wrong_outputs ≡ answer_of p
   unfolding answer_of answer_within checks first_of
   line_outputs e f g = rw (e, f, g)
 

@@ -4,7 +4,7 @@ use Rattle.std.specs.Prelude.{ℕ, Bool, ◌&&◌, ◌||◌, List, [], ◌∷◌
 use Rattle.std.specs.Int.Signed.{le_z, lt_z}
 use Rattle.definition.specs.Limits.{base_limits, lists_room, scratch_room}
 use Rattle.definition.specs.Pattern.{Pattern, column_count, nnz, columns, jumbled, bad_pointers, bad_rows}
-use Rattle.definition.specs.Answers.{Answer, wrongPointers, wrongRows, wrongRoom, orderedJumbled, Problem}
+use Rattle.definition.specs.Answers.{Answer, wrong_pointers, wrong_rows, wrong_room, ordered_jumbled, Problem}
 
 abbrev pub pattern_given : ℤ → List ℤ → List ℤ → Pattern
 pattern_given n pointers rows = record { n = n; pointers = pointers; rows = rows }
@@ -27,8 +27,8 @@ is_row n r = le_z (pos 0) r && lt_z r n
 -- the table from answer 5 on
 unfoldable pub pattern_checks : Pattern → ℕ → ℕ → List (Bool × Answer)
 pattern_checks a lists scratch =
-    (bad_pointers base_limits a, wrongPointers)
-    ∷ (bad_rows a, wrongRows)
-    ∷ (ltb lists (lists_room (column_count a) (nnz a)) || ltb scratch (scratch_room (column_count a) (nnz a)), wrongRoom)
-    ∷ (jumbled (columns a), orderedJumbled)
+    (bad_pointers base_limits a, wrong_pointers)
+    ∷ (bad_rows a, wrong_rows)
+    ∷ (ltb lists (lists_room (column_count a) (nnz a)) || ltb scratch (scratch_room (column_count a) (nnz a)), wrong_room)
+    ∷ (jumbled (columns a), ordered_jumbled)
     ∷ []

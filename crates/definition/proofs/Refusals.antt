@@ -10,7 +10,7 @@ use lib.ListN.{length, replicate}
 use lib.Ieee.{Float}
 use Rattle.definition.specs.Limits.{base_limits, lists_room, scratch_room, room_within}
 use Rattle.definition.specs.Pattern.{Pattern, bad_length, bad_first, bad_order, bad_total}
-use Rattle.definition.specs.Answers.{Problem, ordered, wrongRoom, number_of, answer_of, answer_within}
+use Rattle.definition.specs.Answers.{Problem, ordered, wrong_room, number_of, answer_of, answer_within}
 use Rattle.definition.specs.Promise.{Lent, problem_of, after}
 use Rattle.definition.specs.Opened.{opened}
 use Rattle.definition.proofs.Problems.{ten}
@@ -152,7 +152,7 @@ wholly = refl
 
 -- the same one place short: refused, and every slice as it was
 pub untouched_then : after (lent (pos 3) good (pos 0 ∷ pos 1 ∷ []) ten 3 3 6 66) ≡ (record {
-  answer = wrongRoom;
+  answer = wrong_room;
   statistics = record { lnz = 0; n_div = 0; n_mult_subs_ldl = 0; n_mult_subs_lu = 0; n_dense = 0; d_max = 0; n_cmp_a = 0 };
   permutation = replicate 3 (pos 1);
   inverse = replicate 3 (pos 1);

@@ -3,11 +3,11 @@
 use Prim.Native.Nat.{ℕ}
 use mathlib.Core.Path.{◌≡◌, refl}
 use mathlib.Core.Bool.{true, false}
-use mathlib.Core.List.{List, [], ◌∷◌, map}
-use mathlib.Core.Option.{Option, none, some}
+use mathlib.Core.List.{[], ◌∷◌, map}
+use mathlib.Core.Option.{none, some}
 use lib.IntN.{pos, negsuc}
 use lib.Ieee.{Float, nan, inf, fin}
-use Rattle.definition.specs.Threshold.{Rule, full_rows, multiplier, quarters_of, rule_of, start, threshold}
+use Rattle.definition.specs.Threshold.{full_rows, multiplier, quarters_of, rule_of, start, threshold}
 use Rattle.definition.specs.Answers.{or_full_rows}
 use Rattle.definition.specs.Opened.{opened}
 use Rattle.definition.proofs.Problems.{minus_one, minus_zero, a_quarter}

@@ -10,29 +10,29 @@ use Rattle.definition.specs.Pattern.{Pattern, column_count, nnz, columns, jumble
 -- "accepted otherwise", "accepted, and some column has a row not above the row before it (jumbled)", and what is refused for its n, its multiplier,
 -- its outputs' lengths, its pointers, its rows, its room
 pub data Answer : Type 0 where
-  ordered orderedJumbled wrongCount wrongMultiplier wrongOutputs wrongPointers wrongRows wrongRoom : Answer
+  ordered ordered_jumbled wrong_count wrong_multiplier wrong_outputs wrong_pointers wrong_rows wrong_room : Answer
 
 -- the table's column "No."
 unfoldable pub number_of : Answer → ℕ
 number_of ordered = 0
-number_of orderedJumbled = 1
-number_of wrongCount = 2
-number_of wrongMultiplier = 3
-number_of wrongOutputs = 4
-number_of wrongPointers = 5
-number_of wrongRows = 6
-number_of wrongRoom = 7
+number_of ordered_jumbled = 1
+number_of wrong_count = 2
+number_of wrong_multiplier = 3
+number_of wrong_outputs = 4
+number_of wrong_pointers = 5
+number_of wrong_rows = 6
+number_of wrong_room = 7
 
 -- "Answers 0 and 1", and not "Answers 2 to 7"
 abbrev pub accepts : Answer → Bool
 accepts ordered = true
-accepts orderedJumbled = true
-accepts wrongCount = false
-accepts wrongMultiplier = false
-accepts wrongOutputs = false
-accepts wrongPointers = false
-accepts wrongRows = false
-accepts wrongRoom = false
+accepts ordered_jumbled = true
+accepts wrong_count = false
+accepts wrong_multiplier = false
+accepts wrong_outputs = false
+accepts wrong_pointers = false
+accepts wrong_rows = false
+accepts wrong_room = false
 
 -- the pattern, the settings ("a floating multiplier and the aggressive yes or no"), and the lengths of the slices that are written
 pub record Problem : Type 0 where
@@ -61,13 +61,13 @@ bad_room p =
 -- the table, its last line left out
 unfoldable pub checks : Limits → Problem → List (Bool × Answer)
 checks limits p =
-    (bad_count limits p.pattern, wrongCount)
-    ∷ (bad_multiplier p, wrongMultiplier)
-    ∷ (bad_outputs p, wrongOutputs)
-    ∷ (bad_pointers limits p.pattern, wrongPointers)
-    ∷ (bad_rows p.pattern, wrongRows)
-    ∷ (bad_room p, wrongRoom)
-    ∷ (jumbled (columns p.pattern), orderedJumbled)
+    (bad_count limits p.pattern, wrong_count)
+    ∷ (bad_multiplier p, wrong_multiplier)
+    ∷ (bad_outputs p, wrong_outputs)
+    ∷ (bad_pointers limits p.pattern, wrong_pointers)
+    ∷ (bad_rows p.pattern, wrong_rows)
+    ∷ (bad_room p, wrong_room)
+    ∷ (jumbled (columns p.pattern), ordered_jumbled)
     ∷ []
 
 -- "The first that applies is the answer", and "accepted otherwise"

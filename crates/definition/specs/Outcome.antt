@@ -1,6 +1,6 @@
 -- The outcome of a problem: the answer, both permutations, and the seven statistics. All of it but the collection count is what `Ordering` says, whatever the room.
 -- Assumes nothing.
-use Rattle.std.specs.Prelude.{ℕ, Bool, true, false, List, []}
+use Rattle.std.specs.Prelude.{ℕ, true, false, List, []}
 use Rattle.definition.specs.Answers.{Answer, accepts, Problem, answer_of, rule_for}
 use Rattle.definition.specs.Statistics.{Six, no_six}
 use Rattle.definition.specs.Ordering.{Plain, plain, graph_of, limit_of, key_for}

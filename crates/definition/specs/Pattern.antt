@@ -1,6 +1,6 @@
 -- Document 01, "The piece of work", on the pattern, and of "Answers" what is said of the pattern alone. Its pointers are the pattern's own.
 -- Assumes nothing.
-use Rattle.std.specs.Prelude.{ℕ, suc, Bool, true, false, not, ◌&&◌, ◌||◌, List, [], ◌∷◌, map, ℤ, pos, nat_abs, ltb, eqb, length, get_or, take}
+use Rattle.std.specs.Prelude.{ℕ, suc, Bool, true, not, ◌&&◌, ◌||◌, List, [], ◌∷◌, map, ℤ, pos, nat_abs, ltb, eqb, length, get_or, take}
 use Rattle.std.specs.Int.Signed.{le_z, lt_z}
 use Rattle.std.proofs.Math.Seq.{slice}
 use Rattle.plain.specs.Lists.{up_to, every, rises}

@@ -1,9 +1,8 @@
 -- What a call leaves behind, as one equation: "Every public function's promise fixes its whole answer and every lent slice after it".
 -- Assumes nothing.
-use Rattle.std.specs.Prelude.{ℕ, Bool, true, false, List, map, ℤ, pos, length, replicate, Float}
+use Rattle.std.specs.Prelude.{Bool, true, false, List, map, ℤ, pos, length, replicate, Float}
 use Rattle.definition.specs.Answers.{Answer, accepts, Problem, answer_of}
 use Rattle.definition.specs.Outcome.{Statistics, Outcome, outcome}
-use Rattle.definition.specs.Threshold.{multiplier}
 
 -- what is lent, each slice as it is before the call
 pub record Lent : Type 0 where

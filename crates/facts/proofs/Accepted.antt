@@ -16,7 +16,7 @@ use Rattle.plain.specs.Lists.{member, rises, total, is_none}
 use Rattle.definition.specs.Limits.{base_limits, lists_room, scratch_room}
 use Rattle.definition.specs.Threshold.{Rule, rule_of}
 use Rattle.definition.specs.Pattern.{Pattern, column_count, nnz, column, columns, jumbled, bad_count, bad_pointers, bad_rows}
-use Rattle.definition.specs.Answers.{Answer, ordered, orderedJumbled, wrongCount, wrongMultiplier, wrongOutputs, wrongPointers, wrongRows, wrongRoom, accepts, Problem, bad_multiplier, bad_outputs, bad_room, checks, first_of, answer_within, answer_of, or_full_rows, rule_for}
+use Rattle.definition.specs.Answers.{Answer, ordered, ordered_jumbled, wrong_count, wrong_multiplier, wrong_outputs, wrong_pointers, wrong_rows, wrong_room, accepts, Problem, bad_multiplier, bad_outputs, bad_room, checks, first_of, answer_within, answer_of, or_full_rows, rule_for}
 use Rattle.definition.specs.Cleaned.{cleaned}
 use Rattle.definition.specs.Ordering.{graph_of}
 use Rattle.facts.proofs.Start.{Neighbourly}
@@ -37,16 +37,16 @@ passed false x cs r h = (refl, h)
 pub checked : (p : Problem) → Accepted p → Checked p
 unfolding answer_of answer_within checks
 checked p ok =
-    let c1 = passed (bad_count base_limits p.pattern) wrongCount _ refl ok in
-    let c2 = passed (bad_multiplier p) wrongMultiplier _ refl c1.1 in
-    let c3 = passed (bad_outputs p) wrongOutputs _ refl c2.1 in
-    let c4 = passed (bad_pointers base_limits p.pattern) wrongPointers _ refl c3.1 in
-    let c5 = passed (bad_rows p.pattern) wrongRows _ refl c4.1 in
-    let c6 = passed (bad_room p) wrongRoom _ refl c5.1 in
+    let c1 = passed (bad_count base_limits p.pattern) wrong_count _ refl ok in
+    let c2 = passed (bad_multiplier p) wrong_multiplier _ refl c1.1 in
+    let c3 = passed (bad_outputs p) wrong_outputs _ refl c2.1 in
+    let c4 = passed (bad_pointers base_limits p.pattern) wrong_pointers _ refl c3.1 in
+    let c5 = passed (bad_rows p.pattern) wrong_rows _ refl c4.1 in
+    let c6 = passed (bad_room p) wrong_room _ refl c5.1 in
     record { count = c1.0; multiplier = c2.0; outputs = c3.0; pointers = c4.0; rows = c5.0; room = c6.0 }
 
 -- the answer where no check refuses
-pub answer_is : (p : Problem) → Checked p → answer_of p ≡ cond (jumbled (columns p.pattern)) orderedJumbled ordered
+pub answer_is : (p : Problem) → Checked p → answer_of p ≡ cond (jumbled (columns p.pattern)) ordered_jumbled ordered
 unfolding answer_of answer_within checks first_of
 answer_is p c = rw (c.count, c.multiplier, c.outputs, c.pointers, c.rows, c.room)
 
@@ -54,7 +54,7 @@ answer_is p c = rw (c.count, c.multiplier, c.outputs, c.pointers, c.rows, c.room
 pub accepted : (p : Problem) → Checked p → Accepted p
 accepted p c = ap accepts (answer_is p c) ∙ both (jumbled (columns p.pattern))
   where
-    both : (b : Bool) → accepts (cond b orderedJumbled ordered) ≡ true
+    both : (b : Bool) → accepts (cond b ordered_jumbled ordered) ≡ true
     both true = refl
     both false = refl
 

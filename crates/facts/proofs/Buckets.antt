@@ -123,29 +123,29 @@ module _ {n : ℕ} (vs : List ℕ) (g : Graph) (d : Distinct vs) (l : (v : ℕ) 
       (grouped_bucket k done h (a k (member_here k ks)) r)
 
   -- K-c
-  pub buckets : Sized n g → (keyOf' : ℕ → ℕ) (ks : List ℕ) → Distinct ks → ((v : ℕ) → In v vs → In (place v) ks) → merge_buckets key_of place vs ks g ≡ merge_all keyOf' vs g
+  pub buckets : Sized n g → (key_of' : ℕ → ℕ) (ks : List ℕ) → Distinct ks → ((v : ℕ) → In v vs → In (place v) ks) → merge_buckets key_of place vs ks g ≡ merge_all key_of' vs g
   unfolding merge_buckets
-  buckets s keyOf' ks e c =
+  buckets s key_of' ks e c =
       grouped_only
       (grouped_buckets ks [] g e (λ k m. member_nil k) (λ v m. inl (c v m)) (grouped_owner (λ v. sym (partly_fresh [] v (member_nil (place v)))) (grouped_self vs g d l s)))
-      (top vs g d l heavy clean keyOf' s)
+      (top vs g d l heavy clean key_of' s)
 
   -- each place at the first of its rows
-  pub buckets_met : Sized n g → (keyOf' : ℕ → ℕ) → merge_buckets key_of place vs (firsts (λ k. true) (map place vs)) g ≡ merge_all keyOf' vs g
-  buckets_met s keyOf' =
-      buckets s keyOf' (firsts (λ k. true) (map place vs)) (distinct_firsts (λ k. true) (map place vs))
+  pub buckets_met : Sized n g → (key_of' : ℕ → ℕ) → merge_buckets key_of place vs (firsts (λ k. true) (map place vs)) g ≡ merge_all key_of' vs g
+  buckets_met s key_of' =
+      buckets s key_of' (firsts (λ k. true) (map place vs)) (distinct_firsts (λ k. true) (map place vs))
       (λ v m. firsts_has (λ k. true) (map place vs) (place v) refl (member_map place v vs m))
 
 -- ---- in step 5: the place is the key
 
-pub merged_buckets : {n : ℕ} (key_of keyOf' : ℕ → ℕ) (new : List ℕ) (g : Graph) → Sized n g → Distinct new → ((v : ℕ) → member v new ≡ true → v < n)
+pub merged_buckets : {n : ℕ} (key_of key_of' : ℕ → ℕ) (new : List ℕ) (g : Graph) → Sized n g → Distinct new → ((v : ℕ) → member v new ≡ true → v < n)
     → Clean (keep (has_weight g) new) g → (ks : List ℕ) → Distinct ks → ((v : ℕ) → In v (newest_first g new) → In (key key_of g v) ks)
-    → merge_buckets keyOf' (key key_of g) (newest_first g new) ks g ≡ merged_alike key_of new g
+    → merge_buckets key_of' (key key_of g) (newest_first g new) ks g ≡ merged_alike key_of new g
 unfolding merged_alike newest_first
-merged_buckets key_of keyOf' new g s d l c ks e f =
+merged_buckets key_of key_of' new g s d l c ks e f =
     buckets (reverse vs) g (distinct_reverse vs (distinct_keep (has_weight g) new d)) (λ v m. l v (kept_was v (has_weight g) new (back v m)))
     (λ v m. kept_passes v (has_weight g) new (back v m)) (λ v m. c v (back v m)) (key key_of g)
-    (λ i j mi mj h. same_key key_of g i j (c i (back i mi)) (c j (back j mj)) h) keyOf' s key_of ks e f
+    (λ i j mi mj h. same_key key_of g i j (c i (back i mi)) (c j (back j mj)) h) key_of' s key_of ks e f
   where
     vs : List ℕ
     vs = keep (has_weight g) new
@@ -154,10 +154,10 @@ merged_buckets key_of keyOf' new g s d l c ks e f =
     back v m = sym (member_reverse v vs) ∙ m
 
 -- of a state of the elimination
-pub step_buckets : {n : ℕ} (key_of keyOf' : ℕ → ℕ) (aggressive : Bool) (g : Graph) (p : ℕ) → Quotient n g → Var g p → (ks : List ℕ) → Distinct ks
+pub step_buckets : {n : ℕ} (key_of key_of' : ℕ → ℕ) (aggressive : Bool) (g : Graph) (p : ℕ) → Quotient n g → Var g p → (ks : List ℕ) → Distinct ks
     → ((v : ℕ) → In v (newest_first (after_trim aggressive g p) (collected g p)) → In (key key_of (after_trim aggressive g p) v) ks)
-    → merge_buckets keyOf' (key key_of (after_trim aggressive g p)) (newest_first (after_trim aggressive g p) (collected g p)) ks (after_trim aggressive g p)
+    → merge_buckets key_of' (key key_of (after_trim aggressive g p)) (newest_first (after_trim aggressive g p) (collected g p)) ks (after_trim aggressive g p)
     ≡ after_merge key_of aggressive g p
-step_buckets key_of keyOf' aggressive g p q pv ks e f =
-    merged_buckets key_of keyOf' (collected g p) (after_trim aggressive g p) (sized2 aggressive g p q pv) (distinct_collected g p) (inside aggressive g p q pv)
+step_buckets key_of key_of' aggressive g p q pv ks e f =
+    merged_buckets key_of key_of' (collected g p) (after_trim aggressive g p) (sized2 aggressive g p q pv) (distinct_collected g p) (inside aggressive g p q pv)
     (clean_compared aggressive g p q pv) ks e f

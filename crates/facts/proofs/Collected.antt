@@ -6,7 +6,7 @@ use mathlib.Core.Logic.{◌≢◌}
 use mathlib.Core.Bool.{true, false, not}
 use mathlib.Core.List.{List, [], ◌∷◌, foldl, flat_map}
 use Rattle.plain.proofs.Logic.{cond_has, either, and_left, clash, and_right, not_back, not_false, and_both, or_left, or_right, or_cases}
-use Rattle.plain.proofs.Members.{no_member, member_here, member_there, member_cases, member_append, member_flat_map, member_joined, not_here, not_there, not_cons, apart}
+use Rattle.plain.proofs.Members.{no_member, member_here, member_there, member_cases, member_append, member_flat_map, member_joined, not_here, not_there, not_cons}
 use Rattle.plain.proofs.Repeats.{distinct_snoc}
 use Rattle.plain.specs.Lists.{member}
 use Rattle.plain.specs.Members.{Distinct}

@@ -11,7 +11,6 @@ use Rattle.plain.proofs.Sums.{one_below, total_zero}
 use Rattle.plain.specs.Lists.{up_to}
 use Rattle.definition.specs.State.{State, kind, weight, variables_of, degree, is_variable}
 use Rattle.facts.proofs.Invariant.{var_inside}
-use Rattle.facts.proofs.Whole.{all_gone}
 use Rattle.facts.specs.Invariant.{Live, Inv, var_weight}
 
 module _ {n : ℕ} (s : State) (v : Inv n s) (all_gone : s.gone ≡ n) where

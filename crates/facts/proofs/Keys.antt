@@ -67,31 +67,31 @@ module _ (vs : List ℕ) where
   clean_fold key_of i [] h c = c
   clean_fold key_of i (j ∷ js) h c = clean_fold key_of i js (merge_one key_of i h j) (clean_one key_of i j h c)
 
-  module _ (key_of keyOf' : ℕ → ℕ) where
-    one_any_key : (i j : ℕ) (h : Graph) → member i vs ≡ true → member j vs ≡ true → Clean vs h → merge_one key_of i h j ≡ merge_one keyOf' i h j
+  module _ (key_of key_of' : ℕ → ℕ) where
+    one_any_key : (i j : ℕ) (h : Graph) → member i vs ≡ true → member j vs ≡ true → Clean vs h → merge_one key_of i h j ≡ merge_one key_of' i h j
     unfolding merge_one
     one_any_key i j h mi mj c =
-        ap (λ (b : Bool). cond b (merge_into i j h) h) (alike_plain key_of h i j (c i mi) (c j mj) ∙ sym (alike_plain keyOf' h i j (c i mi) (c j mj)))
+        ap (λ (b : Bool). cond b (merge_into i j h) h) (alike_plain key_of h i j (c i mi) (c j mj) ∙ sym (alike_plain key_of' h i j (c i mi) (c j mj)))
 
-    fold_any_key : (i : ℕ) (js : List ℕ) (h : Graph) → member i vs ≡ true → Within js vs → Clean vs h → foldl (merge_one key_of i) h js ≡ foldl (merge_one keyOf' i) h js
+    fold_any_key : (i : ℕ) (js : List ℕ) (h : Graph) → member i vs ≡ true → Within js vs → Clean vs h → foldl (merge_one key_of i) h js ≡ foldl (merge_one key_of' i) h js
     fold_any_key i [] h mi w c = refl
     fold_any_key i (j ∷ js) h mi w c =
         fold_any_key i js (merge_one key_of i h j) mi (λ x m. w x (member_there x j js m)) (clean_one key_of i j h c)
-        ∙ ap (λ (b : Graph). foldl (merge_one keyOf' i) b js) (one_any_key i j h mi (w j (member_here j js)) c)
+        ∙ ap (λ (b : Graph). foldl (merge_one key_of' i) b js) (one_any_key i j h mi (w j (member_here j js)) c)
 
-    pub all_any_key : (js : List ℕ) (h : Graph) → Within js vs → Clean vs h → merge_all key_of js h ≡ merge_all keyOf' js h
+    pub all_any_key : (js : List ℕ) (h : Graph) → Within js vs → Clean vs h → merge_all key_of js h ≡ merge_all key_of' js h
     unfolding merge_all
     all_any_key [] h w c = refl
     all_any_key (i ∷ js) h w c =
         all_any_key js (foldl (merge_one key_of i) h js) (λ x m. w x (member_there x i js m)) (clean_fold key_of i js h c)
-        ∙ ap (merge_all keyOf' js) (fold_any_key i js h (w i (member_here i js)) (λ x m. w x (member_there x i js m)) c)
+        ∙ ap (merge_all key_of' js) (fold_any_key i js h (w i (member_here i js)) (λ x m. w x (member_there x i js m)) c)
 
 -- the graph after step 5 is the same for every key
-pub merged_any_key : (key_of keyOf' : ℕ → ℕ) (new : List ℕ) (g : Graph) → Clean (keep (has_weight g) new) g → merged_alike key_of new g ≡ merged_alike keyOf' new g
+pub merged_any_key : (key_of key_of' : ℕ → ℕ) (new : List ℕ) (g : Graph) → Clean (keep (has_weight g) new) g → merged_alike key_of new g ≡ merged_alike key_of' new g
 unfolding merged_alike
-merged_any_key key_of keyOf' new g c =
+merged_any_key key_of key_of' new g c =
     let vs : List ℕ = keep (has_weight g) new in
-    all_any_key vs key_of keyOf' (reverse vs) g (λ x m. sym (member_reverse x vs) ∙ m) c
+    all_any_key vs key_of key_of' (reverse vs) g (λ x m. sym (member_reverse x vs) ∙ m) c
 
 -- ---- the elimination
 
@@ -101,51 +101,51 @@ pub clean_compared : {n : ℕ} (aggressive : Bool) (g : Graph) (p : ℕ) → Quo
 clean_compared aggressive g p q pv v m =
     distinct_entries (λ x. x) aggressive g p q pv v (kept_was v (has_weight (after_trim aggressive g p)) (collected g p) m) (compared_mass (λ x. x) aggressive g p q pv v m)
 
-pub after_merge_any_key : {n : ℕ} (key_of keyOf' : ℕ → ℕ) (aggressive : Bool) (g : Graph) (p : ℕ) → Quotient n g → Var g p
-    → after_merge key_of aggressive g p ≡ after_merge keyOf' aggressive g p
-after_merge_any_key key_of keyOf' aggressive g p q pv = merged_any_key key_of keyOf' (collected g p) (after_trim aggressive g p) (clean_compared aggressive g p q pv)
+pub after_merge_any_key : {n : ℕ} (key_of key_of' : ℕ → ℕ) (aggressive : Bool) (g : Graph) (p : ℕ) → Quotient n g → Var g p
+    → after_merge key_of aggressive g p ≡ after_merge key_of' aggressive g p
+after_merge_any_key key_of key_of' aggressive g p q pv = merged_any_key key_of key_of' (collected g p) (after_trim aggressive g p) (clean_compared aggressive g p q pv)
 
-module _ {n : ℕ} (key_of keyOf' : ℕ → ℕ) (aggressive : Bool) where
-  pub eliminate_any_key : (s : State) (p d : ℕ) → Inv n s → Var s.graph p → eliminate key_of n aggressive s p d ≡ eliminate keyOf' n aggressive s p d
+module _ {n : ℕ} (key_of key_of' : ℕ → ℕ) (aggressive : Bool) where
+  pub eliminate_any_key : (s : State) (p d : ℕ) → Inv n s → Var s.graph p → eliminate key_of n aggressive s p d ≡ eliminate key_of' n aggressive s p d
   unfolding eliminate
-  eliminate_any_key s p d v pv = ap (finish n s p d (collected s.graph p)) (after_merge_any_key key_of keyOf' aggressive s.graph p v.graph pv)
+  eliminate_any_key s p d v pv = ap (finish n s p d (collected s.graph p)) (after_merge_any_key key_of key_of' aggressive s.graph p v.graph pv)
 
-  pub step_any_key : (s : State) → Inv n s → step key_of n aggressive s (pivot s) ≡ step keyOf' n aggressive s (pivot s)
+  pub step_any_key : (s : State) → Inv n s → step key_of n aggressive s (pivot s) ≡ step key_of' n aggressive s (pivot s)
   unfolding step
   step_any_key s v = go (pivot s) refl
     where
-      go : (f : Found) → pivot s ≡ f → step key_of n aggressive s f ≡ step keyOf' n aggressive s f
+      go : (f : Found) → pivot s ≡ f → step key_of n aggressive s f ≡ step key_of' n aggressive s f
       go nobody e = refl
       go (found p d) e = eliminate_any_key s p d v (pivoted s v p d e).is_var
 
-  pub run_any_key : (k : ℕ) (s : State) → Inv n s → run key_of k n aggressive s ≡ run keyOf' k n aggressive s
+  pub run_any_key : (k : ℕ) (s : State) → Inv n s → run key_of k n aggressive s ≡ run key_of' k n aggressive s
   unfolding run
   run_any_key zero s v = refl
   run_any_key (suc k) s v =
       ap (λ (t : State). elim (ltb s.gone n) [ true ↦ t | false ↦ s ])
-      (run_any_key k (step key_of n aggressive s (pivot s)) (inv_step key_of aggressive s v) ∙ ap (run keyOf' k n aggressive) (step_any_key s v))
+      (run_any_key k (step key_of n aggressive s (pivot s)) (inv_step key_of aggressive s v) ∙ ap (run key_of' k n aggressive) (step_any_key s v))
 
   -- and so is all that is told of the run beside it
   pub beside_any_key : {A : Type 0} (tell : State → Found → State → A → A) (k : ℕ) (s : State) (x : A) → Inv n s
-      → beside tell key_of k n aggressive s x ≡ beside tell keyOf' k n aggressive s x
+      → beside tell key_of k n aggressive s x ≡ beside tell key_of' k n aggressive s x
   unfolding beside
   beside_any_key tell zero s x v = refl
   beside_any_key {A} tell (suc k) s x v =
       ap (λ (y : A). elim (ltb s.gone n) [ true ↦ y | false ↦ x ])
       (beside_any_key tell k (step key_of n aggressive s (pivot s)) (tell s (pivot s) (step key_of n aggressive s (pivot s)) x) (inv_step key_of aggressive s v)
-      ∙ ap (λ (t : State). beside tell keyOf' k n aggressive t (tell s (pivot s) t x)) (step_any_key s v))
+      ∙ ap (λ (t : State). beside tell key_of' k n aggressive t (tell s (pivot s) t x)) (step_any_key s v))
 
 module _ (limit : ℕ) (nbrs : List (List ℕ)) (nb : Neighbourly nbrs) (aggressive : Bool) where
   -- request 2: the final state, and with it all that is read off it
-  pub final_any_key : (key_of keyOf' : ℕ → ℕ) → final_state key_of aggressive limit nbrs ≡ final_state keyOf' aggressive limit nbrs
+  pub final_any_key : (key_of key_of' : ℕ → ℕ) → final_state key_of aggressive limit nbrs ≡ final_state key_of' aggressive limit nbrs
   unfolding final_state
-  final_any_key key_of keyOf' = run_any_key key_of keyOf' aggressive (length nbrs) (started limit nbrs) (inv_start limit nbrs nb)
+  final_any_key key_of key_of' = run_any_key key_of key_of' aggressive (length nbrs) (started limit nbrs) (inv_start limit nbrs nb)
 
-  pub collections_any_key : (key_of keyOf' : ℕ → ℕ) (size : ℕ) → collections_of key_of aggressive limit nbrs size ≡ collections_of keyOf' aggressive limit nbrs size
+  pub collections_any_key : (key_of key_of' : ℕ → ℕ) (size : ℕ) → collections_of key_of aggressive limit nbrs size ≡ collections_of key_of' aggressive limit nbrs size
   unfolding collections_of
-  collections_any_key key_of keyOf' size =
+  collections_any_key key_of key_of' size =
       ap (λ (r : Room). r.collections)
-      (beside_any_key key_of keyOf' aggressive (room_step size) (length nbrs) (started limit nbrs) (record { free = total length nbrs; collections = 0 }) (inv_start limit nbrs nb))
+      (beside_any_key key_of key_of' aggressive (room_step size) (length nbrs) (started limit nbrs) (record { free = total length nbrs; collections = 0 }) (inv_start limit nbrs nb))
 
   -- the unlimited sum, and the sum in 32 bits
   pub final_wrapped : (m : ℕ) → final_state (plain_key m) aggressive limit nbrs ≡ final_state (wrapped_key m) aggressive limit nbrs

@@ -17,7 +17,7 @@ use Rattle.plain.proofs.Members.{member_here, member_there, apart, member_revers
 use Rattle.plain.proofs.Repeats.{distinct_reverse, distinct_keep}
 use Rattle.plain.proofs.Sums.{total_moved}
 use Rattle.plain.specs.Lists.{member, keep, total}
-use Rattle.plain.specs.Members.{Distinct, Within, same}
+use Rattle.plain.specs.Members.{Distinct, Within}
 use Rattle.definition.specs.State.{Graph, merged, kind, weight, parent, has_weight, put_kind, put_reps, put_parent, put_weight, merge_into}
 use Rattle.definition.specs.Merge.{key, same_lists, alike, merge_one, merge_all, merged_alike}
 use Rattle.facts.proofs.Sizes.{sized_merge_into}

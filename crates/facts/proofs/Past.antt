@@ -23,7 +23,6 @@ use Rattle.facts.proofs.Recorded.{Recorded}
 use Rattle.facts.proofs.Remembered.{recorded_at}
 use Rattle.facts.proofs.Start.{Neighbourly}
 use Rattle.facts.specs.History.{rows_of, front_of, born_at, history_at}
-use Rattle.facts.specs.Invariant as invariant
 use Rattle.facts.specs.Past.{Owner, an_active, an_element, Above, its_pivot, its_front, Joined, together, neighbours, in_element, behind, before, H0, H1, H2, H3, H4, H5}
 
 module _ {n : ℕ} {nbrs : List (List ℕ)} (s : State) (fs : List (List ℕ)) (r : Recorded n nbrs s fs) where

@@ -111,7 +111,7 @@ unfolding place_one
 place_least left size r v = (min-le_left r.least (new_degree left size r.graph v), min-le_right r.least (new_degree left size r.graph v))
 
 module _ {n : ℕ} (left size : ℕ) (r : Placed) (v : ℕ) (lv : v < n) (has : ℕ → Bool) (absent : has v ≡ false) (s : Standing n r has)
-    (low-degree : new_degree left size r.graph v < n) where
+    (low_degree : new_degree left size r.graph v < n) where
   abbrev d' : ℕ
   d' = new_degree left size r.graph v
 
@@ -189,7 +189,7 @@ module _ {n : ℕ} (left size : ℕ) (r : Placed) (v : ℕ) (lv : v < n) (has : 
   stands_high : (i : ℕ) → eqb i v || has i ≡ true → degree r'.graph i < n
   stands_high i h =
       or_cases (degree r'.graph i < n) (eqb i v) (has i) h
-      (λ e. rw (eqb-true i v e, own) low-degree) (λ e. rw (other i (has_apart i e)) (s.high i e))
+      (λ e. rw (eqb-true i v e, own) low_degree) (λ e. rw (other i (has_apart i e)) (s.high i e))
 
   pub standing_one : Standing n r' (λ i. eqb i v || has i)
   unfolding place_one put_degree push_front

@@ -1,7 +1,7 @@
 -- H2, and how elements are born: a parent is born later than its child, and what stands in the front of a child belongs to the parent or stands in its front.
 -- An element that was never born, a row of degree 0, has no variable, no parent, and no other row. Kept by a step.
 -- Assumes nothing.
-use Prim.Native.Nat.{ℕ, ◌+◌, ◌<◌}
+use Prim.Native.Nat.{ℕ, ◌<◌}
 use native.Mathlib.Omega.{arith}
 use mathlib.Core.Path.{◌≡◌, refl, sym, ap, ◌∙◌}
 use mathlib.Core.Logic.{◌≢◌, ◌⊎◌, inl, inr}

@@ -12,7 +12,7 @@ use lib.ListN.{length, get_or, set, replicate, get_or-eq_default}
 use lib.Seq.{get_or-set_other}
 use borrow.Author.Tests.{eqb-true, eqb-false, ltb-true, ltb-false}
 use Rattle.plain.proofs.Logic.{and_left, none_if, either, and_right, clash}
-use Rattle.plain.proofs.Members.{no_member, member_here, member_below, member_there, member_cases, apart}
+use Rattle.plain.proofs.Members.{no_member, member_here, member_below, member_there, member_cases}
 use Rattle.plain.proofs.Positions.{get_or_counted, length_counted, get_or_same}
 use Rattle.plain.proofs.Repeats.{distinct_count_up}
 use Rattle.plain.specs.Lists.{member, up_to, count_up, leading, trailing, cons_if, rises, rises_from}

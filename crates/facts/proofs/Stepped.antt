@@ -13,14 +13,14 @@ use Rattle.plain.proofs.Folds.{hits, hits_at, hits_where}
 use Rattle.plain.proofs.Logic.{either, and_left, clash, and_right, or_cases, or_left, bool_ext}
 use Rattle.plain.proofs.Members.{kept_was}
 use Rattle.plain.specs.Lists.{member, keep, total, rotate}
-use Rattle.plain.specs.Members.{Within, same}
+use Rattle.plain.specs.Members.{Within}
 use Rattle.definition.specs.State.{Graph, Kind, merged, element, kind, weight, elements_of, variables_of, parent, degree, has_weight}
 use Rattle.definition.specs.Pivot.{collected, passed}
 use Rattle.definition.specs.Trim.{trimmed, kept_elements, kept_variables, dropped_elements}
 use Rattle.definition.specs.Merge.{merged_alike}
 use Rattle.facts.proofs.Invariant.{var_inside, var_elsewhere}
 use Rattle.facts.proofs.Collected.{distinct_collected, collected_apart, collected_var}
-use Rattle.facts.proofs.Rows.{same_passed, parent_passed, nothing_kept, trim_degree, taken_at, trimmed_elements, trimmed_variables, trimmed_degree, trimmed_kind, trimmed_weight, trimmed_parent, still_elements, still_variables, still_degree, still_kind, still_weight}
+use Rattle.facts.proofs.Rows.{same_passed, parent_passed, nothing_kept, trim_degree, taken_at, trimmed_elements, trimmed_variables, trimmed_degree, trimmed_kind, trimmed_weight, trimmed_parent}
 use Rattle.facts.proofs.Merging.{Joined, joined, part}
 use Rattle.facts.proofs.Sizes.{sized_parents, sized_trimmed}
 use Rattle.facts.specs.Invariant.{Var, Sized, Quotient}

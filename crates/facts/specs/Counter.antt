@@ -1,6 +1,6 @@
 -- How a program finds an external size: the counter of an element starts at its weight, and loses the weight of each row of the new element that has it.
 -- Assumes nothing.
-use Rattle.std.specs.Prelude.{ℕ, cond, List, ◌∷◌}
+use Rattle.std.specs.Prelude.{ℕ, cond, List}
 use Rattle.plain.specs.Lists.{member}
 use Rattle.definition.specs.State.{Graph, weight, elements_of}
 use Rattle.definition.specs.Pivot.{collected}

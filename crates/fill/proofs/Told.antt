@@ -134,7 +134,7 @@ module _ (s : State) (fronts nbrs : List (List ℕ)) (end : Ended s fronts nbrs)
 
   -- ---- any sum over the charges that goes element by element
 
-  module _ (h : ℕ → ℕ) (gain : ℕ → ℕ → ℕ) (falls-gain : (r m : ℕ) → total h (fall_to r m) ≡ gain m r) (nothing : gain 1 0 ≡ 0) where
+  module _ (h : ℕ → ℕ) (gain : ℕ → ℕ → ℕ) (falls_gain : (r m : ℕ) → total h (fall_to r m) ≡ gain m r) (nothing : gain 1 0 ≡ 0) where
     abbrev gains : ℕ → ℕ
     gains e = gain (length (block_of s.graph e)) (charged_rest s e)
 
@@ -174,10 +174,10 @@ module _ (s : State) (fronts nbrs : List (List ℕ)) (end : Ended s fronts nbrs)
         ∙ omega (
           arith,
           total_flat_map h (λ e. fall_to (charged_rest s e) (length (block_of s.graph e))) (postorder s.graph),
-          total_same (λ e. total h (fall_to (charged_rest s e) (length (block_of s.graph e)))) gains (postorder s.graph) (all_of _ (postorder s.graph) (λ e. falls-gain (charged_rest s e) (length (block_of s.graph e)))),
+          total_same (λ e. total h (fall_to (charged_rest s e) (length (block_of s.graph e)))) gains (postorder s.graph) (all_of _ (postorder s.graph) (λ e. falls_gain (charged_rest s e) (length (block_of s.graph e)))),
           by_birth,
           as_told,
-          falls-gain 0 nd,
+          falls_gain 0 nd,
           total_append (λ (b : Block). gain b.f b.r) (map (λ (f : Front). record { f = f.pivots; r = f.rest + nd }) s.fronts) (record { f = nd; r = 0 } ∷ []),
           total_map (λ (b : Block). gain b.f b.r) (λ (f : Front). record { f = f.pivots; r = f.rest + nd }) s.fronts,
           total_one (λ (b : Block). gain b.f b.r) (record { f = nd; r = 0 }),

@@ -14,13 +14,13 @@ use Rattle.numbers.specs.Meaning.{answer_meant, rule_meant, statistics_meant}
 -- an answer
 the_answer : Answers.Answer → Answer
 the_answer Answers.ordered = Ordered
-the_answer Answers.orderedJumbled = OrderedJumbled
-the_answer Answers.wrongCount = WrongCount
-the_answer Answers.wrongMultiplier = WrongMultiplier
-the_answer Answers.wrongOutputs = WrongOutputs
-the_answer Answers.wrongPointers = WrongPointers
-the_answer Answers.wrongRows = WrongRows
-the_answer Answers.wrongRoom = WrongRoom
+the_answer Answers.ordered_jumbled = OrderedJumbled
+the_answer Answers.wrong_count = WrongCount
+the_answer Answers.wrong_multiplier = WrongMultiplier
+the_answer Answers.wrong_outputs = WrongOutputs
+the_answer Answers.wrong_pointers = WrongPointers
+the_answer Answers.wrong_rows = WrongRows
+the_answer Answers.wrong_room = WrongRoom
 
 answer_back : (a : Answer) → the_answer (answer_meant a) ≡ a
 unfolding the_answer

@@ -14,13 +14,13 @@ use Rattle.numbers.specs.declared.Outcome.{Outcome}
 
 abbrev pub answer_meant : Answer → Answers.Answer
 answer_meant Ordered = Answers.ordered
-answer_meant OrderedJumbled = Answers.orderedJumbled
-answer_meant WrongCount = Answers.wrongCount
-answer_meant WrongMultiplier = Answers.wrongMultiplier
-answer_meant WrongOutputs = Answers.wrongOutputs
-answer_meant WrongPointers = Answers.wrongPointers
-answer_meant WrongRows = Answers.wrongRows
-answer_meant WrongRoom = Answers.wrongRoom
+answer_meant OrderedJumbled = Answers.ordered_jumbled
+answer_meant WrongCount = Answers.wrong_count
+answer_meant WrongMultiplier = Answers.wrong_multiplier
+answer_meant WrongOutputs = Answers.wrong_outputs
+answer_meant WrongPointers = Answers.wrong_pointers
+answer_meant WrongRows = Answers.wrong_rows
+answer_meant WrongRoom = Answers.wrong_room
 
 abbrev pub rule_meant : DenseRule → Rule
 rule_meant FullRows = full_rows

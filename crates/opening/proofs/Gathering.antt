@@ -157,7 +157,7 @@ module _ (n : ℕ) (l s : List ℤ) (t : State) (inv : Inv n t) (wd : Weighed t)
   -- ---- a pivot with elements
 
   module _ (turns : made < n) (fresh : (i : ℕ) → i < made → rd n ORD s i ≢ p) (room : definition.all_places t.graph + n ≤ length l)
-      (rm : definition.Room) (at-lim : rm.free ≡ lim) where
+      (rm : definition.Room) (at_lim : rm.free ≡ lim) where
     abbrev x : Outside
     x = gathered_outside n p base lim made l s
 
@@ -165,7 +165,7 @@ module _ (n : ℕ) (l s : List ℤ) (t : State) (inv : Inv n t) (wd : Weighed t)
     agrees : Agrees n g p X l s made base lim rm
     agrees =
         gathered_definition n g p X l s made base lim rm space small narrow (shows n t inv p pv wd s want) hp elen (inv.graph.distinct_elements p pv) (not_among n t inv p pv)
-        (elements_low n t inv p pv) turns fresh (held_places g inv.graph) room at-lim
+        (elements_low n t inv p pv) turns fresh (held_places g inv.graph) room at_lim
 
     gd : Gathered n X l s made base lim p es agrees.entries x
     gd = agrees.gathered

@@ -51,7 +51,7 @@ use Rattle.opening.proofs.Shown.{degree_passed, elements_passed, kind_passed, pa
 
 module _ (n : ℕ) (l s : List ℤ) (t : State) (inv : Inv n t) (wd : Weighed t) (p d : ℕ) (which : pivot t ≡ found p d) (made base lim : ℕ) (small : n < 2 ^ 63)
     (narrow : length l < 2 ^ 63) (dr : Rest n l s t.graph made base lim) (turns : made < n) (fresh : (i : ℕ) → i < made → rd n ORD s i ≢ p)
-    (room : definition.all_places t.graph + n ≤ length l) (rm : definition.Room) (at-lim : rm.free ≡ lim) where
+    (room : definition.all_places t.graph + n ≤ length l) (rm : definition.Room) (at_lim : rm.free ≡ lim) where
   abbrev g : Graph
   g = t.graph
 
@@ -105,7 +105,7 @@ module _ (n : ℕ) (l s : List ℤ) (t : State) (inv : Inv n t) (wd : Weighed t)
   c : Collects n g p l s₂ x
   c =
       collects n l s₂ t inv wd p pv made base lim small narrow space₂ want₂ (same₂ ELEN p refl refl refl refl ∙ dr.elens p pv) turns
-      (λ i h e. fresh i h (sym (same₂ ORD i refl refl refl refl) ∙ e)) room rm at-lim
+      (λ i h e. fresh i h (sym (same₂ ORD i refl refl refl refl) ∙ e)) room rm at_lim
 
   -- the fields that neither a list nor a gather changes
   same₃ : (f i : ℕ) → eqb HEAD f ≡ false → eqb NEXT f ≡ false → eqb LAST f ≡ false → eqb WANT f ≡ false → eqb PE f ≡ false → eqb LEN f ≡ false → eqb TMP f ≡ false
@@ -284,7 +284,7 @@ module _ (n : ℕ) (l s : List ℤ) (t : State) (inv : Inv n t) (wd : Weighed t)
   unfolding begin.pivoted
   begun_last h =
       let a = lasts n l s₂ t inv wd p pv made base lim small narrow space₂ want₂ (same₂ ELEN p refl refl refl refl ∙ dr.elens p pv) turns
-      (λ i k e. fresh i k (sym (same₂ ORD i refl refl refl refl) ∙ e)) room rm at-lim h in
+      (λ i k e. fresh i k (sym (same₂ ORD i refl refl refl refl) ∙ e)) room rm at_lim h in
       record {
         turns = a.turns;
         behind = a.behind;
@@ -301,7 +301,7 @@ module _ (n : ℕ) (l s : List ℤ) (t : State) (inv : Inv n t) (wd : Weighed t)
   unfolding begin.pivoted
   begun_same h =
       let a = same_still n l s₂ t inv wd p pv made base lim small narrow space₂ want₂ (same₂ ELEN p refl refl refl refl ∙ dr.elens p pv) turns
-      (λ i k e. fresh i k (sym (same₂ ORD i refl refl refl refl) ∙ e)) room rm at-lim h in
+      (λ i k e. fresh i k (sym (same₂ ORD i refl refl refl refl) ∙ e)) room rm at_lim h in
       record {
         start = a.start ∙ same₂ PE p refl refl refl refl;
         turns = a.turns;

@@ -6,7 +6,7 @@ use mathlib.Core.List.{List, []}
 use lib.Dec.{eqb}
 use lib.IntN.{ℤ, pos}
 use lib.ListN.{length, replicate}
-use Rattle.definition.specs.Answers.{accepts, answer_of, number_of, ordered, orderedJumbled}
+use Rattle.definition.specs.Answers.{accepts, answer_of, number_of, ordered, ordered_jumbled}
 use Rattle.definition.specs.Answers as Answers
 use Rattle.definition.specs.Outcome.{with_count, refused}
 use Rattle.definition.specs.Outcome as Outcomes
@@ -43,6 +43,6 @@ unfolding number_of
 jumbled_is z a ok is =
     ap (λ (y : Answers.Answer). eqb (number_of y) 1) (is ∙ answer_is (problem_of z) (checked (problem_of z) ok)) ∙ go (jumbled (columns (problem_of z).pattern))
   where
-    go : (b : Bool) → eqb (number_of (cond b orderedJumbled ordered)) 1 ≡ b
+    go : (b : Bool) → eqb (number_of (cond b ordered_jumbled ordered)) 1 ≡ b
     go true = refl
     go false = refl

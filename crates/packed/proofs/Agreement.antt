@@ -97,7 +97,7 @@ module _ (g : Graph) (p : ℕ) (X : ℕ → List ℕ) (w : ℕ → Bool) (h : Sh
   -- Definition C: the free end and the count after the store
   module _ (n : ℕ) (l s : List ℤ) (made base lim : ℕ) (m : Outside) (o : Gathered n X l s made base lim p (elements_of g p) q m)
       (all : sum_to n (λ i. length (X i)) ≡ all_places g) (room : sum_to n (λ i. length (X i)) + n ≤ length l) (few : length q ≤ n) (inside : lim ≤ length l)
-      (r : Room) (at-lim : r.free ≡ lim) where
+      (r : Room) (at_lim : r.free ≡ lim) where
     stays : length q ≤ length l - lim → ((stored (length l) g p r).room.free ≡ m.made.free) × ((stored (length l) g p r).room.collections ≡ r.collections + m.made.collected)
     stays b =
         let k = o.kept b in
@@ -107,7 +107,7 @@ module _ (g : Graph) (p : ℕ) (X : ℕ → List ℕ) (w : ℕ → Bool) (h : Sh
     moves : length l - lim < length q → ((stored (length l) g p r).room.free ≡ m.made.free) × ((stored (length l) g p r).room.collections ≡ r.collections + m.made.collected)
     moves b =
         let k = o.moved b in
-        let e : length l - r.free ≡ length l - lim = ap (λ (y : ℕ). length l - y) at-lim in
+        let e : length l - r.free ≡ length l - lim = ap (λ (y : ℕ). length l - y) at_lim in
         let t : get_or (taken_at g p) (length l - r.free) 0 ≡ get_or (sofar_of q) (length l - lim) 0 = ap (λ (y : ℕ). get_or (taken_at g p) y 0) e ∙ ap (λ (y : List ℕ). get_or y (length l - lim) 0) (sym gather_at) in
         let z = stored_one (length l) g p r (omega arith) (omega (arith, gather_length)) (omega (arith, gather_length)) in
         (omega (arith, z.0, o.free, k.0, gather_length, t), omega (arith, z.1, k.1))
@@ -147,13 +147,13 @@ pub gathered_definition : (n : ℕ) (g : Graph) (p : ℕ) (X : ℕ → List ℕ)
     → Shows g p X (wants n s) → p < n → rd n ELEN s p ≡ length (elements_of g p) → Distinct (elements_of g p) → member p (elements_of g p) ≡ false
     → ((e : ℕ) → In e (elements_of g p) → e < n) → made < n → ((t : ℕ) → t < made → rd n ORD s t ≢ p)
     → sum_to n (λ i. length (X i)) ≡ all_places g → all_places g + n ≤ length l → r.free ≡ lim → Agrees n g p X l s made base lim r
-gathered_definition n g p X l s made base lim r space small narrow h hp elen once away low turns fresh all room at-lim =
+gathered_definition n g p X l s made base lim r space small narrow h hp elen once away low turns fresh all room at_lim =
     let o = gathered_rep n X l s made base lim space small narrow p hp (elements_of g p) (variables_of g p) h.own elen once away low turns fresh (omega (arith, all)) in
     let f = few n X l s made base lim space small narrow p hp (elements_of g p) (variables_of g p) h.own elen once away low in
     record {
       entries = picked (wants n s) (read_all X (elements_of g p) (variables_of g p));
       new = gather_collected g p X (wants n s) h;
       gathered = o;
-      after = gathered_stored g p X (wants n s) h n l s made base lim (gathered_outside n p base lim made l s) o all (omega (arith, all)) f space.lists.fits r at-lim;
-      shrinks = gathered_shrunk g p X (wants n s) h n l s made base lim (gathered_outside n p base lim made l s) o all (omega (arith, all)) f space.lists.fits r at-lim;
+      after = gathered_stored g p X (wants n s) h n l s made base lim (gathered_outside n p base lim made l s) o all (omega (arith, all)) f space.lists.fits r at_lim;
+      shrinks = gathered_shrunk g p X (wants n s) h n l s made base lim (gathered_outside n p base lim made l s) o all (omega (arith, all)) f space.lists.fits r at_lim;
     }

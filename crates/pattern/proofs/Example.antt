@@ -1,6 +1,5 @@
 -- A jumbled pattern of three columns, from its slices to the lists, by computation: what the scratch and the list space held before is no matter.
 -- Assumes nothing.
-use Prim.Native.Nat.{ℕ}
 use mathlib.Core.Path.{◌≡◌, refl}
 use mathlib.Core.Bool.{true}
 use mathlib.Core.List.{List, [], ◌∷◌, map}

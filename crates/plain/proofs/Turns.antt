@@ -9,7 +9,6 @@ use mathlib.Core.List.{List, [], ◌∷◌, map, foldl}
 use Rattle.plain.specs.Lists.{count_up, up_to}
 use Rattle.plain.specs.Turns.{entries, times, Turned}
 use Rattle.plain.proofs.Entries.{entries_counted}
-use Rattle.plain.specs.Members.{same}
 
 module _ {A : Type 0} (f : ℕ → A → A) (m : A) where
   pub times_none : times 0 f m ≡ m

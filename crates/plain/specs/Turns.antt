@@ -2,7 +2,6 @@
 -- Assumes nothing.
 use Rattle.std.specs.Prelude.{ℕ, zero, suc, ◌≡◌, Bool, cond, not, ◌&&◌, List, [], ◌∷◌, eqb}
 use Rattle.plain.specs.Lists.{cons_if}
-use Rattle.plain.specs.Members.{same}
 
 -- F p, F (p + 1), and so on: k values
 unfoldable pub entries : {A : Type 0} → (ℕ → A) → ℕ → ℕ → List A

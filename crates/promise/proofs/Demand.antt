@@ -5,7 +5,7 @@ use mathlib.Core.Bool.{cond}
 use mathlib.Core.List.{map}
 use lib.IntN.{pos}
 use lib.ListN.{length}
-use Rattle.definition.specs.Answers.{ordered, orderedJumbled, answer_of, rule_for}
+use Rattle.definition.specs.Answers.{ordered, ordered_jumbled, answer_of, rule_for}
 use Rattle.definition.specs.Pattern.{Pattern, columns, jumbled}
 use Rattle.definition.specs.Ordering.{Plain}
 use Rattle.definition.specs.Outcome.{seven, with_count, collection_count}
@@ -54,7 +54,7 @@ module _ (l l' : Lent) (same : Alike l l') (ok : Accepted (problem_of l)) (ok' :
   answer_same : answer_of (problem_of l) ≡ answer_of (problem_of l')
   answer_same =
       answer_is (problem_of l) (checked (problem_of l) ok)
-      ∙ ap (λ (a : Pattern). cond (jumbled (columns a)) orderedJumbled ordered) pattern_same
+      ∙ ap (λ (a : Pattern). cond (jumbled (columns a)) ordered_jumbled ordered) pattern_same
       ∙ sym (answer_is (problem_of l') (checked (problem_of l') ok'))
 
   pub agreed : Agreed (after l) (after l')

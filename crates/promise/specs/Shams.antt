@@ -5,7 +5,7 @@ use Rattle.std.specs.Prelude.{ℕ, ◌-◌, ◌*◌, ◌/◌, ◌≡◌, true, f
 use mathlib.Core.List.{List, [], ◌∷◌, map, flat_map}
 use Rattle.plain.specs.Lists.{up_to, keep}
 use Rattle.definition.specs.Pattern.{climbs}
-use Rattle.definition.specs.Answers.{accepts, wrongCount, answer_of}
+use Rattle.definition.specs.Answers.{accepts, wrong_count, answer_of}
 use Rattle.definition.specs.Statistics.{six_of}
 use Rattle.definition.specs.Ordering.{graph_of, inverse_of}
 use Rattle.definition.specs.Outcome.{Outcome, refused, seven}
@@ -61,7 +61,7 @@ pub record KeepsOut (f : Lent → After) : Type 0 where
 -- ---- a function for each
 
 unfoldable pub refusing : Lent → After
-refusing l = untouched l (refused wrongCount)
+refusing l = untouched l (refused wrong_count)
 
 -- an outcome where the input is accepted, and the promised refusal where not
 abbrev pub answering : (Lent → Outcome) → Lent → After

@@ -1,7 +1,7 @@
 -- `pattern::copy_pointers` meets its contract. Assumes nothing.
 use Rattle.pattern.specs.Model.{copied_pointer}
 use Rattle.plain.specs.Turns.{Turned}
-use Prim.Native.Nat.{◌≤◌, ◌-◌}
+use Prim.Native.Nat.{◌≤◌}
 use lib.ListN.{length}
 use mathlib.Core.Path.{◌≡◌}
 use Rattle.cells.specs.View.{Room}

@@ -1,5 +1,4 @@
 use borrow.Author.Rules.{rules}
-use Prim.Native.Nat.{◌-◌}
 use Rattle.pattern.specs.Model.{met_part}
 use Rattle.pattern.proofs.Reaching.{until_none, until_more, until_stop, until_end}
 use Rattle.pattern.proofs.Steps.{meet_at_step}

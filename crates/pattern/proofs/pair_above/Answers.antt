@@ -1,5 +1,4 @@
 use borrow.Author.Rules.{rules}
-use Prim.Native.Nat.{◌-◌}
 use Rattle.pattern.specs.Model.{paired_part}
 use Rattle.pattern.proofs.Reaching.{until_none, until_more, until_stop, until_end}
 use Rattle.pattern.proofs.Steps.{pair_at_step}
