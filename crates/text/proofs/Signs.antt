@@ -14,7 +14,7 @@ use Rattle.text.specs.Numerals.{signed}
 
 -- what a local holds is what was put there
 pub back : (x z : ℤ) → x ≡ z → mag z < 2 ^ 31 → to_z w32 (of_z w32 x) ≡ z
-back x z e h = ap (λ (y : ℤ). to_z w32 (of_z w32 y)) e ∙ to_z-of_z (record { sfits = h })
+back x z e h = ap (λ (y : ℤ). to_z w32 (of_z w32 y)) e ∙ to_z-of_z {w = w32} (record { sfits = h })
 
 minus_is : (v : ℕ) → pos 0 -ℤ pos (suc v) ≡ negsuc v
 minus_is v =

@@ -1,12 +1,14 @@
 // Decimal numbers as text: read from bytes, and written. A number is a minus sign or none, then digits; white space stands between two numbers.
 // What is read is promised whole (`read_numbers`). No contract can say what is written: the functions that write are proved safe and ending.
 #![tactic(auto)]
+
 ghost use Rattle.std.specs.Prelude.{◌≡◌, ◌≤◌, ◌<◌, ◌^◌, pos, ◌-ℤ◌, length};
 ghost use Rattle.std.specs.Int.{w32};
 ghost use Rattle.std.proofs.Common.{SFits};
 ghost use Rattle.text.specs.Numerals.{blank, longer, with_digit, with_other, grown, signed, page, kept, ended, stepped, read_text, reading_of, Small, Within};
 
-use libc::STDOUT_FILENO;
+use std::io;
+use std::io::Write;
 
 #[derive(Clone, Copy)]
 pub enum Fault {
@@ -231,25 +233,26 @@ pub fn read_numbers(text: &[u8], out: &mut [i32]) -> Reading
 // ---- writing
 
 // Writes a line.
-pub fn print_line(line: &[u8]) {
-    io::write_all(STDOUT_FILENO, line);
-    io::write_all(STDOUT_FILENO, b"\n");
+pub fn print_line<W: Write>(out: &mut W, line: &[u8]) -> io::Result<()> {
+    out.write_all(line)?;
+    out.write_all(b"\n")
 }
 
 // Writes a number, with a blank before it where it is not the first.
-pub fn print_unsigned(first: bool, x: u64) {
+pub fn print_unsigned<W: Write>(out: &mut W, first: bool, x: u64) -> io::Result<()> {
     if !first {
-        io::write_all(STDOUT_FILENO, b" ");
+        out.write_all(b" ")?;
     }
-    io::print_decimal(STDOUT_FILENO, x);
+    write!(out, "{x}")
 }
 
 // Writes numbers, one blank between two. A negative one is written as 0: no outcome has any.
-pub fn print_numbers(xs: &[i32]) {
+pub fn print_numbers<W: Write>(out: &mut W, xs: &[i32]) -> io::Result<()> {
     let mut i = 0;
     while i < xs.len() {
         let x = cells::row_at(xs, i);
-        print_unsigned(i == 0, x as u64);
+        print_unsigned(out, i == 0, x as u64)?;
         i += 1;
     }
+    Ok(())
 }
