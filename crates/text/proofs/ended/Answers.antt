@@ -1,12 +1,7 @@
 -- `text::ended` meets its contract.
-use mathlib.Core.Path.{subst}
-use Rattle.text.specs.Numerals.{Small}
 use Rattle.text.proofs.Steps.{ended_between, ended_minus, ended_digits, ended_wrong}
 use borrow.Author.Rules.{rules}
 use Rattle.text.proofs.ended.Goals as goal
-
-pub signed-x-requires : goal.signed-x-requires
-signed-x-requires c = subst Small c.in-Digits.is c.requires
 
 pub returns-in-Between : goal.returns-in-Between
 returns-in-Between c = search (rules, ended_between)

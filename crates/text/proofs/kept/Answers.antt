@@ -6,8 +6,7 @@ use Rattle.text.proofs.kept.Goals as goal
 
 pub returns-then-count-out : goal.returns-then-count-out
 returns-then-count-out c =
-    let s = c in
-    (rw (back s.args.x s.args.x refl s.ranges.x.sfits) (kept_room s.args.out.now s.args.count s.args.x c.if-count-out.true), tt)
+    (rw (back c.args.x c.args.x refl c.ranges.x.sfits) (kept_room c.args.out.now c.args.count c.args.x c.if-count-out.true), tt)
 
 pub returns : goal.returns
 returns c = (kept_full c.args.out.now c.args.count c.args.x c.if-count-out.false, tt)

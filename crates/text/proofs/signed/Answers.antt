@@ -5,11 +5,6 @@ use lib.IntN.{ℤ, pos, ◌-ℤ◌}
 use Rattle.text.proofs.Signs.{back, mag_minus, signed_yes, signed_no}
 use Rattle.text.proofs.signed.Goals as goal
 
-pub minus-requires : goal.minus-requires
-minus-requires c =
-    let v = c.args.value in
-    rw (back _ _ c.number-x.ensures (omega arith)) (record { sfits = omega (arith, mag_minus v) })
-
 pub returns-then-negative : goal.returns-then-negative
 returns-then-negative c =
     let v = c.args.value in

@@ -1,12 +1,7 @@
 -- `text::with_digit` meets its contract.
-use mathlib.Core.Path.{subst}
-use Rattle.text.specs.Numerals.{Small}
 use Rattle.text.proofs.Steps.{digit_between, digit_minus, digit_digits, digit_wrong}
 use borrow.Author.Rules.{rules}
 use Rattle.text.proofs.with_digit.Goals as goal
-
-pub longer-requires-in-Digits : goal.longer-requires-in-Digits
-longer-requires-in-Digits c = (subst Small c.in-Digits.is c.requires.0, c.requires.1)
 
 pub returns-in-Between : goal.returns-in-Between
 returns-in-Between c = search (rules, digit_between)
