@@ -5,11 +5,13 @@
 // A case is numbers: n; the multiplier as a quotient of two; aggressive as 0 or 1; the lengths of permutation, inverse, lists and scratch; the number of
 // pointers and that of rows; then these. The slices that are lent start full of FILL.
 #![tactic(auto)]
+
 ghost use Rattle.std.specs.Prelude.{◌≡◌, ◌≤◌, length};
 ghost use Rattle.replay.specs.Fitting.{Fitting};
 
-use libc::STDOUT_FILENO;
 use numbers::{Outcome, Settings, Statistics};
+use std::io;
+use std::io::Write;
 use text::Reading;
 
 const FILL: i32 = -7;
@@ -37,35 +39,40 @@ struct Lengths {
 
 // ---- printing
 
-fn print_statistics(x: Statistics) {
-    text::print_unsigned(true, x.lnz);
-    text::print_unsigned(false, x.n_div);
-    text::print_unsigned(false, x.n_mult_subs_ldl);
-    text::print_unsigned(false, x.n_mult_subs_lu);
-    text::print_unsigned(false, x.n_dense);
-    text::print_unsigned(false, x.d_max);
-    text::print_unsigned(false, x.n_cmp_a);
+fn print_statistics<W: Write>(out: &mut W, x: Statistics) -> io::Result<()> {
+    text::print_unsigned(out, true, x.lnz)?;
+    text::print_unsigned(out, false, x.n_div)?;
+    text::print_unsigned(out, false, x.n_mult_subs_ldl)?;
+    text::print_unsigned(out, false, x.n_mult_subs_lu)?;
+    text::print_unsigned(out, false, x.n_dense)?;
+    text::print_unsigned(out, false, x.d_max)?;
+    text::print_unsigned(out, false, x.n_cmp_a)
 }
 
-fn print_bar() {
-    io::write_all(STDOUT_FILENO, b"|");
+fn print_bar<W: Write>(out: &mut W) -> io::Result<()> {
+    out.write_all(b"|")
 }
 
-fn print_outcome(o: Outcome, permutation: &[i32], inverse: &[i32]) {
+fn print_outcome<W: Write>(
+    out: &mut W,
+    o: Outcome,
+    permutation: &[i32],
+    inverse: &[i32],
+) -> io::Result<()> {
     let a = o.answer;
     let number = numbers::answer_number(a);
-    text::print_numbers(&[number]);
-    print_bar();
+    text::print_numbers(out, &[number])?;
+    print_bar(out)?;
     if number < 2 {
-        text::print_numbers(permutation);
-        print_bar();
-        text::print_numbers(inverse);
+        text::print_numbers(out, permutation)?;
+        print_bar(out)?;
+        text::print_numbers(out, inverse)?;
     } else {
-        print_bar();
+        print_bar(out)?;
     }
-    print_bar();
+    print_bar(out)?;
     let x = o.statistics;
-    print_statistics(x);
+    print_statistics(out, x)
 }
 
 // ---- what became of the slices
@@ -99,21 +106,26 @@ fn is_kept(permutation: &[i32], inverse: &[i32], lists: &[i64], scratch: &[i64])
         && all_as_filled(inverse)
 }
 
-fn print_kept(permutation: &[i32], inverse: &[i32], lists: &[i64], scratch: &[i64]) {
+fn print_kept<W: Write>(
+    out: &mut W,
+    permutation: &[i32],
+    inverse: &[i32],
+    lists: &[i64],
+    scratch: &[i64],
+) -> io::Result<()> {
     if is_kept(permutation, inverse, lists, scratch) {
-        text::print_line(b"|kept");
-        return;
+        return text::print_line(out, b"|kept");
     }
     if all_are(lists, 0) && all_are(scratch, 0) {
-        text::print_line(b"|cleared");
-        return;
+        return text::print_line(out, b"|cleared");
     }
-    text::print_line(b"|changed");
+    text::print_line(out, b"|changed")
 }
 
 // ---- a case
 
-fn run_case(
+fn run_case<W: Write>(
+    out: &mut W,
     n: i32,
     pointers: &[i32],
     rows: &[i32],
@@ -122,7 +134,7 @@ fn run_case(
     inverse: &mut [i32],
     lists: &mut [i64],
     scratch: &mut [i64],
-) {
+) -> io::Result<()> {
     let o = ordering::order(
         n,
         pointers,
@@ -133,8 +145,8 @@ fn run_case(
         lists,
         scratch,
     );
-    print_outcome(o, permutation, inverse);
-    print_kept(permutation, inverse, lists, scratch);
+    print_outcome(out, o, permutation, inverse)?;
+    print_kept(out, permutation, inverse, lists, scratch)
 }
 
 fn output_cells() -> [i32; MOST_OUTPUT]
@@ -155,7 +167,14 @@ fn scratch_cells() -> [i64; MOST_SCRATCH]
     [WIDE_FILL; MOST_SCRATCH]
 }
 
-fn replay_case(n: i32, pointers: &[i32], rows: &[i32], settings: Settings, k: Lengths)
+fn replay_case<W: Write>(
+    out: &mut W,
+    n: i32,
+    pointers: &[i32],
+    rows: &[i32],
+    settings: Settings,
+    k: Lengths,
+) -> io::Result<()>
     requires { Fitting k }
 {
     let mut permutation = output_cells();
@@ -167,6 +186,7 @@ fn replay_case(n: i32, pointers: &[i32], rows: &[i32], settings: Settings, k: Le
     let l = k.lists;
     let s = k.scratch;
     run_case(
+        out,
         n,
         pointers,
         rows,
@@ -175,7 +195,7 @@ fn replay_case(n: i32, pointers: &[i32], rows: &[i32], settings: Settings, k: Le
         &mut inverse[..b],
         &mut lists[..l],
         &mut scratch[..s],
-    );
+    )
 }
 
 // x, but at most `most`.
@@ -209,9 +229,9 @@ fn lengths_of(xs: &[i32]) -> Lengths
 }
 
 // The first case of `xs`: how many numbers it has, 0 where it is not whole.
-fn replay_first(xs: &[i32]) -> usize {
+fn replay_first<W: Write>(out: &mut W, xs: &[i32]) -> io::Result<usize> {
     if xs.len() < HEAD {
-        return 0;
+        return Ok(0);
     }
     let more = xs.len() - HEAD;
     let rows_at = HEAD + within(cells::row_at(xs, 8), more);
@@ -219,28 +239,35 @@ fn replay_first(xs: &[i32]) -> usize {
     let end = rows_at + within(cells::row_at(xs, 9), left);
     let k = lengths_of(xs);
     let settings = settings_of(xs[1], xs[2], xs[3]);
-    replay_case(xs[0], &xs[HEAD..rows_at], &xs[rows_at..end], settings, k);
-    end
+    replay_case(
+        out,
+        xs[0],
+        &xs[HEAD..rows_at],
+        &xs[rows_at..end],
+        settings,
+        k,
+    )?;
+    Ok(end)
 }
 
-fn replay_all(xs: &[i32]) {
+fn replay_all<W: Write>(out: &mut W, xs: &[i32]) -> io::Result<()> {
     let mut at = 0;
     while at < xs.len() {
         let left = xs.len() - at;
-        let used = within(replay_first(&xs[at..]), left);
+        let used = within(replay_first(out, &xs[at..])?, left);
         if used < 1 {
-            text::print_line(b"the last case is not whole");
-            return;
+            return text::print_line(out, b"the last case is not whole");
         }
         at += used;
     }
+    Ok(())
 }
 
-fn replay_read(bytes: &[u8], xs: &mut [i32]) {
+fn replay_read<W: Write>(out: &mut W, bytes: &[u8], xs: &mut [i32]) -> io::Result<()> {
     let r = text::read_numbers(bytes, xs);
     match r {
-        Reading::Numbers(count) => replay_all(&xs[..count]),
-        Reading::Failed(_) => text::print_line(b"the cases are not numbers, or too many"),
+        Reading::Numbers(count) => replay_all(out, &xs[..count]),
+        Reading::Failed(_) => text::print_line(out, b"the cases are not numbers, or too many"),
     }
 }
 
@@ -250,9 +277,9 @@ fn number_cells() -> [i32; MOST_NUMBERS]
     [0; MOST_NUMBERS]
 }
 
-fn replay_text(bytes: &[u8]) {
+fn replay_text<W: Write>(out: &mut W, bytes: &[u8]) -> io::Result<()> {
     let mut xs = number_cells();
-    replay_read(bytes, &mut xs);
+    replay_read(out, bytes, &mut xs)
 }
 
 fn case_bytes() -> [u8; 131072]
@@ -261,8 +288,10 @@ fn case_bytes() -> [u8; 131072]
     [0; 131072]
 }
 
-fn main() {
+fn main(rt: HostRuntime) -> io::Result<()> {
+    let mut input = rt.stdin();
+    let mut out = rt.stdout();
     let mut bytes = case_bytes();
-    let size = io::read_full(0, &mut bytes);
-    replay_text(&bytes[..size]);
+    let size = text::read_full(&mut input, &mut bytes)?;
+    replay_text(&mut out, &bytes[..size])
 }

@@ -1,14 +1,14 @@
 // Decimal numbers as text: read from bytes, and written. A number is a minus sign or none, then digits; white space stands between two numbers.
-// What is read is promised whole (`read_numbers`). No contract can say what is written: the functions that write are proved safe and ending.
+// What is read is promised whole (`read_numbers`). No contract says what is written: the functions that write are proved safe and ending.
 #![tactic(auto)]
 
-ghost use Rattle.std.specs.Prelude.{◌≡◌, ◌≤◌, ◌<◌, ◌^◌, pos, ◌-ℤ◌, length};
+ghost use Rattle.std.specs.Prelude.{◌≡◌, ◌≤◌, ◌<◌, ◌^◌, pos, ◌-ℤ◌, length, IfOk};
 ghost use Rattle.std.specs.Int.{w32};
 ghost use Rattle.std.proofs.Common.{SFits};
 ghost use Rattle.text.specs.Numerals.{blank, longer, with_digit, with_other, grown, signed, page, kept, ended, stepped, read_text, reading_of, Small, Within};
 
 use std::io;
-use std::io::Write;
+use std::io::{Read, Write};
 
 #[derive(Clone, Copy)]
 pub enum Fault {
@@ -228,6 +228,21 @@ pub fn read_numbers(text: &[u8], out: &mut [i32]) -> Reading
 {
     let s = walk(text, out);
     reading_of(s)
+}
+
+// Reads into `bytes` from its start, until it is full or the input ends: how many bytes there are.
+pub fn read_full<R: Read>(input: &mut R, bytes: &mut [u8]) -> io::Result<usize>
+    ensures { IfOk result (λ count. count ≤ length bytes.new) }
+{
+    let mut count = 0;
+    while count < bytes.len() {
+        let more = input.read(&mut bytes[count..])?;
+        if more == 0 {
+            break;
+        }
+        count += more;
+    }
+    Ok(count)
 }
 
 // ---- writing
