@@ -1,6 +1,6 @@
-// Orders a pattern that is read as text: decimal numbers, white space between them: n, then the n+1 pointers, then the rows. n is at most 128, and at most 1,024
-// rows are taken; a wrong text is said in one line. What is printed is the outcome at multiplier 10, aggressive, in the least room: the answer; the permutation,
-// empty on a refusal; the seven statistics.
+// Orders a pattern that is read as text: decimal numbers, white space between them: n, then the n+1 pointers, then the rows. n is at most 128, and at most
+// 1,024 rows are taken; a wrong text is said in one line. What is printed is the outcome at multiplier 10, aggressive, in the least room: the answer; the
+// permutation, empty on a refusal; the seven statistics.
 #![tactic(auto)]
 
 ghost use Rattle.std.specs.Prelude.{◌≡◌, ◌+◌, ◌≤◌, length};
