@@ -12,7 +12,7 @@ use Rattle.numbers.specs.Gains.{added_element, begun, counted}
 use Rattle.numbers.specs.Meaning.{statistics_meant}
 use Rattle.numbers.specs.declared.Statistics.{Statistics}
 use Rattle.cells.specs.Layout.{DEGREE, NV}
-use Rattle.cells.specs.View.{at, plus, rd}
+use Rattle.cells.specs.View.{plus, rd}
 use Rattle.chain.specs.First.{First}
 use Rattle.packed.specs.declared.Made.{Made}
 use Rattle.packed.specs.Gather.{cut, kept_part, outside}

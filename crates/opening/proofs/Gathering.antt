@@ -15,7 +15,7 @@ use Rattle.plain.proofs.Entries.{upd_other, upd_same}
 use Rattle.plain.proofs.Members.{member_nil}
 use Rattle.plain.specs.Lists.{member}
 use Rattle.plain.specs.Members.{In}
-use Rattle.plain.specs.Turns.{entries, upd}
+use Rattle.plain.specs.Turns.{upd}
 use Rattle.definition.specs.Pivot.{collected, passed}
 use Rattle.definition.specs.Room as definition
 use Rattle.definition.specs.State.{Graph, State, elements_of, is_variable, kind, weight}

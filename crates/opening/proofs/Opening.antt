@@ -18,14 +18,13 @@ use Rattle.plain.proofs.Positions.{get_or_same}
 use Rattle.plain.proofs.Sums.{total_add, total_keep, total_members, total_ones}
 use Rattle.plain.specs.Lists.{keep, total, up_to}
 use Rattle.plain.specs.Turns.{entries}
-use Rattle.definition.specs.State.{Graph, Kind, variable, merged, element, dense, at_once, degree, dense_rows, is_dense, is_element, is_variable, kind, parent, queue_of, start_degree, start_kind, start_weight, started}
+use Rattle.definition.specs.State.{Graph, Kind, variable, merged, element, dense, at_once, dense_rows, is_dense, is_element, is_variable, kind, parent, queue_of, start_degree, start_kind, start_weight, started}
 use Rattle.facts.proofs.Invariant.{var_not_merged}
 use Rattle.facts.proofs.Sizes.{sized_started}
 use Rattle.facts.proofs.Start.{Neighbourly, degree_is, element_empty, elements_is, kind_in, kind_inside, kind_out, live_is, start_not_merged, variables_is, weight_is}
 use Rattle.cells.proofs.Fields.{rd_null}
 use Rattle.cells.proofs.Slices.{same?, split}
 use Rattle.cells.specs.Layout.{PE, LEN, WANT, ELEN, DEGREE, W, NEXT, LAST, HEAD, HHEAD, ORD, MERGES, NV}
-use Rattle.cells.specs.Links as links
 use Rattle.cells.specs.View.{Room, at, rd}
 use Rattle.chain.proofs.Frame.{chained_same}
 use Rattle.chain.proofs.Opening.{enlisted_degrees, enlisted_other, enlisted_room, opened_start}

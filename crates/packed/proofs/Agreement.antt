@@ -15,7 +15,7 @@ use Rattle.facts.proofs.Reading.{read_entries, taken_entries}
 use Rattle.facts.specs.Reading.{taken, taken_at}
 use Rattle.cells.proofs.Slices.{split}
 use Rattle.cells.specs.Layout.{ELEN, ORD}
-use Rattle.cells.specs.View.{at, rd}
+use Rattle.cells.specs.View.{rd}
 use Rattle.packed.specs.Gather.{Outside, gathered_outside}
 use Rattle.packed.specs.Places.{Space, sum_to}
 use Rattle.packed.specs.Reading.{after_parts, entries_of, pick_one, picked, read_all, read_parts, sofar_of}

@@ -11,7 +11,6 @@ use Rattle.packed.specs.Gather.{collected_rest, gathered_outside, made_room, set
 use Rattle.packed.specs.Model.{copied, entered, laid, moved_down, moved_low, moved_new, moved_next, moved_one, packed_all, packed_low}
 use Rattle.packed.specs.Places.{due}
 use Rattle.packed.specs.Tray.{absorbed, counted, own_part, passed_by, took, took_all, took_element, took_elements, took_own, took_part, took_row}
-use Rattle.packed.specs.declared.Made.{Made}
 
 -- of each object its place, its length, whether it is wanted, and how many elements its list begins with
 scratch : List ℤ

@@ -2,7 +2,6 @@
 -- Assumes nothing.
 use Rattle.std.proofs.Common.{◌≡◌, ℕ, suc, ◌+◌, ◌<◌, ◌≤◌, ◌≢◌, ◌⊎◌, sym, ap, ◌∙◌, inl, inr, ⊎_elim, arith}
 use Rattle.cells.proofs.Slices.{same?}
-use Rattle.cells.specs.View.{at}
 use Rattle.packed.specs.Places.{Places, Sorted, Waits}
 use Rattle.packed.proofs.Frame.{Stays}
 

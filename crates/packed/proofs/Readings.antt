@@ -22,7 +22,6 @@ use Rattle.packed.proofs.Dropping.{Dropped, absorb_fold, absorbed_field, absorbe
 use Rattle.packed.proofs.Frame.{ends, inside_space, len_of}
 use Rattle.packed.proofs.Picked.{after_is, foldl_append}
 use Rattle.packed.proofs.Taking.{Holds, holds_absorbed, holds_none, holds_passed, holds_read, wants}
-use Rattle.packed.specs.declared.Tray.{Tray}
 
 after_grows : (X : ℕ → List ℕ) (c : ℕ) (es : List ℕ) → c ≤ after_parts X c es
 after_grows X c es = omega (arith, after_is X c es)

@@ -12,8 +12,6 @@ use Rattle.packed.specs.Gather.{Cleared}
 use Rattle.packed.specs.Model.{entered, laid}
 use Rattle.packed.specs.Places.{Owns, Space, places}
 use Rattle.packed.proofs.Newcomer.{entered_mem, laid_there}
-use Rattle.packed.specs.declared.Tray.{Tray}
-use Rattle.packed.specs.declared.Ends.{Ends}
 
 -- from s, where the objects of `gone` are dead, the lists Y are in the memory of c, with k places free from its end on
 pub record Ready (n : ℕ) (Y : ℕ → List ℕ) (l s : List ℤ) (made k : ℕ) (c : Cleared) : Type 0 where

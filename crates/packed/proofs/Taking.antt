@@ -25,7 +25,6 @@ use Rattle.packed.specs.Reading.{entries_of, pick_one, sofar_of}
 use Rattle.packed.specs.Tray.{Taking, absorbed, counted, empty_tray, passed_by, taking, took, took_row}
 use Rattle.packed.proofs.Dropping.{absorbed_field, absorbed_len, absorbed_named, absorbed_other, absorbed_parent, absorbed_place, absorbed_room, absorbed_w}
 use Rattle.packed.proofs.Picked.{foldl_append}
-use Rattle.packed.specs.declared.Tray.{Tray}
 
 -- ---- a list with one entry more
 

@@ -3,7 +3,7 @@
 use Rattle.std.specs.Prelude.{ℕ, Bool, List, [], ◌∷◌, ◌++◌, Float, ℤ, pos, length, take, drop}
 use Rattle.definition.specs.Answers.{number_of}
 use Rattle.definition.specs.Outcome.{Statistics}
-use Rattle.definition.specs.Promise.{Lent, After, after}
+use Rattle.definition.specs.Promise.{Lent, After}
 
 -- "in this order: lnz, n_div, n_mult_subs_ldl, n_mult_subs_lu, n_dense, d_max, n_cmp_a"
 unfoldable pub seven_of : Statistics → List ℕ

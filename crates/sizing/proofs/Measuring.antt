@@ -1,6 +1,6 @@
 -- Step 3 on plain lists: after it the mark of every element that a row of the new element has is the flag and the element's weight outside; nothing else is changed.
 -- Assumes nothing.
-use Rattle.std.proofs.Common.{◌≡◌, ℕ, ◌-◌, ◌<◌, List, ℤ, ap, ◌∙◌, arith}
+use Rattle.std.proofs.Common.{◌≡◌, ℕ, ◌<◌, List, ℤ, ap, ◌∙◌, arith}
 use Rattle.cells.specs.Layout.{DEGREE, NV, W}
 use Rattle.cells.specs.View.{rd}
 use Rattle.sizing.specs.Counters.{counted}

@@ -28,7 +28,7 @@ use Rattle.numbers.specs.Gains.{Within, after_elements, gained}
 use Rattle.elimination.specs.Model.{element_counted}
 use Rattle.standing.specs.Standing.{Standing}
 use Rattle.standing.proofs.Begun.{Before, begun, chosen, pivot_low, pivot_var, rows_short}
-use Rattle.standing.proofs.Merges.{above₄, merged₄, merges, risen₄, two₄}
+use Rattle.standing.proofs.Merges.{above₄, merged₄, risen₄, two₄}
 use Rattle.standing.proofs.Places.{done₅, gone_next, kept₅, left_few, left_is, next, rest_is, turn₅}
 use Rattle.standing.proofs.After.{chained₅, flagged₅, grows, least₅, logged₅, long₅, now, pivots_are, unwritten₅}
 use Rattle.standing.proofs.Elements.{sizes₅}

@@ -14,7 +14,6 @@ use Rattle.plain.specs.Lists.{up_to}
 use Rattle.plain.specs.Members.{In}
 use Rattle.plain.specs.Permutations.{Permutation}
 use Rattle.definition.specs.State.{Graph, Kind, variable, merged, element, dense, row_count, kind, rep, is_element, is_merged, dense_rows}
-use Rattle.definition.specs.State as state
 use Rattle.definition.specs.Tree.{size_of, children_of, roots, big_last, post_tree, postorder}
 use Rattle.definition.specs.Ordering.{merged_with, block_of, permutation_of}
 use Rattle.facts.proofs.Chains.{Grown, Placed}

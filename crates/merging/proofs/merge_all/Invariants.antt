@@ -1,6 +1,6 @@
 use lib.ListN.{length}
 use mathlib.Core.Path.{◌≡◌}
-use Prim.Native.Nat.{◌-◌, ◌≤◌}
+use Prim.Native.Nat.{◌≤◌}
 use Rattle.cells.specs.View.{Room}
 use Rattle.merging.specs.Model.{Bounded, merging}
 use Rattle.merging.proofs.Walks.{MergedTo}

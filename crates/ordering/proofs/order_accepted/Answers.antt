@@ -1,6 +1,6 @@
 -- `ordering::order_accepted` meets its contract.
 use Prim.Native.Nat.{ℕ}
-use mathlib.Core.Path.{ap, sym, ◌∙◌}
+use mathlib.Core.Path.{ap, ◌∙◌}
 use lib.IntN.{pos}
 use lib.ListN.{replicate}
 use borrow.Author.Rules.{rules}

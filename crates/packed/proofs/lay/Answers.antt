@@ -1,4 +1,4 @@
-use Rattle.std.proofs.Common.{◌-◌, rules}
+use Rattle.std.proofs.Common.{rules}
 use Rattle.cells.proofs.Rows.{clipped_finish}
 use Rattle.packed.specs.Model.{laid}
 use Rattle.packed.proofs.Steps.{lay_turn}

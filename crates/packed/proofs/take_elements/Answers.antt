@@ -1,5 +1,5 @@
 use Rattle.packed.specs.Tray.{took_elements}
-use Rattle.std.proofs.Common.{◌-◌, rules}
+use Rattle.std.proofs.Common.{rules}
 use Rattle.packed.proofs.Trays.{elements_turn}
 use Rattle.plain.proofs.Turns.{begin}
 use Rattle.cells.proofs.Rows.{clipped_finish}

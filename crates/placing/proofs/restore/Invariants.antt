@@ -1,4 +1,4 @@
-use Prim.Native.Nat.{◌<◌, ◌≤◌, ◌-◌, ◌^◌}
+use Prim.Native.Nat.{◌<◌, ◌≤◌, ◌^◌}
 use mathlib.Core.Path.{◌≡◌}
 use lib.ListN.{length}
 use Rattle.cells.specs.Rows.{Rows}

@@ -1,4 +1,3 @@
-use Prim.Native.Nat.{◌-◌}
 use borrow.Author.Rules.{rules}
 use Rattle.plain.proofs.Turns.{begin, turn, finish}
 use Rattle.tree.specs.Model.{threaded}

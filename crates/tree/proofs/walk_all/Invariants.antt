@@ -1,5 +1,5 @@
 -- `tree::walk_all` meets its contract: the loop is a fold by turns. Assumes nothing.
-use Prim.Native.Nat.{◌-◌, ◌≤◌}
+use Prim.Native.Nat.{◌≤◌}
 use mathlib.Core.Path.{◌≡◌}
 use lib.ListN.{length}
 use Rattle.plain.specs.Turns.{Turned}
