@@ -1,25 +1,28 @@
 -- The tests of `multiplier_wrong` and `dense_rule`, in their order, against the definition's `rule_of`. The remainder by a quarter is exact on every float.
 -- Assumes nothing.
-use Prim.Native.Nat.{ℕ, zero, suc, ◌+◌, ◌-◌, ◌*◌, ◌%◌, ◌^◌, ◌≤◌, ◌<◌}
-use native.Mathlib.Nat.{lt_of_le_of_lt, lt_of_lt_of_le, lt_irrefl, lt_of_not-le, mul-one, one-mul, zero-mul, add-zero, mul_assoc, mul_left_comm, mul_comm, mul-pos, mod-one, zero-mod, mod-le, mul-mod_left, mul-div_cancel}
+use Prim.Native.Nat.{ℕ, zero, suc, ◌+◌, ◌-◌, ◌*◌, ◌/◌, ◌%◌, ◌^◌, ◌≤◌, ◌<◌}
+use native.Mathlib.Nat.{lt_of_le_of_lt, lt_of_lt_of_le, lt_irrefl, lt_of_not-le, mul-one, one-mul, zero-mul, add-zero, mul_assoc, mul_left_comm, mul_comm, mul-pos, mod-one, zero-mod, mod-le, mul-mod_left, mul-div_cancel, le_trans, mul-mul-mul_comm, eq_of_mul-eq-mul_right}
 use native.Mathlib.Decide.{dec_le}
 use native.Mathlib.Omega.{arith}
 use mathlib.Core.Path.{◌≡◌, refl, sym, ap, ◌∙◌, subst}
-use mathlib.Core.Bool.{Bool, true, false, not, ◌&&◌, ◌||◌, cond, true≢false, false≢true}
+use mathlib.Core.Bool.{Bool, true, false, not, ◌&&◌, ◌||◌, cond, beq, true≢false, false≢true}
 use mathlib.Core.Logic.{◌⊎◌, inl, inr}
 use mathlib.Core.Option.{none, some}
-use lib.Dec.{T, ltb, leb, eqb, lit<, ltb→lt, leb→le, eqb_refl}
+use lib.Dec.{T, ltb, leb, eqb, lit<, lit≤, ltb→lt, leb→le, eqb→eq, eqb_refl}
 use lib.IntN.{ℤ, pos, negsuc}
 use lib.Pow.{pow-add, pow_pos, pow_mono, pow-lt, shl_lt, mod-pow-add}
-use lib.Ieee.{Float, nan, inf, fin, binary64, up, down, round, rem, lt, eq, ne, fits, level}
+use lib.Ieee.{Float, nan, inf, fin, binary64, up, down, round, rem, mul, unlike, lt, eq, ne, fits, level}
 use lib.Ieee.Bits.{is_true}
 use lib.Ieee.Digits.{back}
 use lib.Ieee.Exact.{HasValue, round_exact}
-use lib.Ieee.Fits.{down_pos, up_pos, and_l, and_r, eq→eqb}
+use lib.Ieee.Fits.{down_pos, up_pos, and_i, and_l, and_r, eq→eqb}
+use lib.Ieee.Back.{round_whole}
+use lib.Ieee.Nearest.{div_mono, div_same}
+use Rattle.std.specs.Float.{trunc, round_with, ratio_floor}
 use borrow.Author.Tests.{le-ltb, ltb-true, ltb-false}
 use Rattle.plain.specs.Lists.{is_none}
 use Rattle.definition.specs.Threshold.{full_rows, multiplier, in_quarters, rule_of}
-use Rattle.numbers.proofs.Exact.{is_zero}
+use Rattle.numbers.proofs.Exact.{is_zero, round_small, test_ext}
 use Rattle.numbers.proofs.Rules.{above_not, below_is, zero_in, plus_none, minus_none, no_size, zero_size}
 
 -- `x != x`
@@ -151,6 +154,122 @@ quarter_left (inf s) t a b c d = absurd (inf_no s b c)
 quarter_left (fin true m k) t a b c d =
     rest true m k t ∙ ap not (is_true (eqb (m * up k * 4 % down k) 0) (eq→eqb (ap (λ (y : ℕ). y * 4 % down k) (minus_zero_lem m k d) ∙ zero-mod (down k)))) ∙ sym (minus_none m k)
 quarter_left (fin false m k) t a b c d = rest false m k t ∙ ap not (sym (below_is (m * up k) (down k) (down_pos k) (small m k b))) ∙ sym (plus_none m k)
+
+-- ---- a whole number of quarters: 4 x is exact, and its whole part is it exactly where nothing is left
+
+-- `x * 4.0`
+four : (s : Bool) (m : ℕ) (k : ℤ) → T (fits binary64 (fin s m k)) → m * up k ≤ 1000 * down k
+    → HasValue (mul binary64 (fin s m k) (fin false 1 (pos 2))) (unlike s false) (m * up k * 4) (down k)
+unfolding mul
+four s m k t h =
+    subst (λ (d : ℕ). HasValue (round binary64 (unlike s false) (m * up k * 4) d) (unlike s false) (m * up k * 4) (down k)) (sym (mul-one (down k)))
+    (go (unlike s false) k t h)
+  where
+    none : (r : Bool) (A D : ℕ) → 0 < D → A ≡ 0 → HasValue (round binary64 r (A * 4) D) r (A * 4) D
+    none r A D P e =
+        subst (λ (z : ℕ). HasValue (round binary64 r (z * 4) D) r (z * 4) D) (sym e)
+        (round_exact binary64 r 0 D 0 0 P (lit< tt) (lit< tt) (zero-mul (2 ^ 1074) ∙ sym (zero-mul D)))
+
+    go : (r : Bool) (k : ℤ) → T (fits binary64 (fin s m k)) → m * up k ≤ 1000 * down k → HasValue (round binary64 r (m * up k * 4) (down k)) r (m * up k * 4) (down k)
+    go r (pos n) t h = round_small r (m * 2 ^ n * 4) 1 0 refl (omega arith) (omega arith)
+    go r (negsuc j) t h = elim (small_of s m j t).1 [
+      | inl z ↦ none r (m * 1) (2 ^ suc j) (pow_pos (suc j)) (ap (λ (y : ℕ). y * 1) z)
+      | inr i ↦
+          let up4 : 2 ^ 1076 ≡ 2 ^ (1076 - suc j) * 2 ^ suc j = ap (λ (z : ℕ). 2 ^ z) (sym (back 1076 (suc j) (omega arith))) ∙ pow-add 2 (1076 - suc j) (suc j) in
+          subst (λ (a : ℕ). HasValue (round binary64 r (a * 4) (2 ^ suc j)) r (a * 4) (2 ^ suc j)) (sym (mul-one m))
+          (round_exact binary64 r (m * 4) (2 ^ suc j) m (1076 - suc j) (pow_pos (suc j)) (small_of s m j t).0
+          (lt_of_lt_of_le (shl_lt 53 (1076 - suc j) (small_of s m j t).0) (pow_mono {i = 53 + (1076 - suc j)} {j = 2098} (omega arith)))
+          (mul_assoc m 4 (2 ^ 1074) ∙ ap (λ (z : ℕ). m * z) up4 ∙ sym (mul_assoc m (2 ^ (1076 - suc j)) (2 ^ suc j))))
+    ]
+
+-- the whole part of a small value
+whole_part : (y : Float) (s : Bool) (a c : ℕ) → 0 < c → a ≤ 4000 * c → HasValue y s a c → HasValue (trunc binary64 y) s (a / c) 1
+unfolding round_with
+whole_part nan s a c C h p = absurd p
+whole_part (inf t) s a c C h p = absurd p
+whole_part (fin t n e) s a c C h p =
+    let q : n * up e / down e ≡ a / c = div_same (n * up e) (down e) a c (down_pos e) C p.1 in
+    go t p.0 q
+  where
+    fits_in : a / c ≤ 2 ^ 53
+    fits_in = le_trans (div_mono a c 4000 1 C (lit< tt) (subst (λ (z : ℕ). z ≤ 4000 * c) (sym (mul-one a)) h)) (lit≤ tt)
+
+    go : (t : Bool) → t ≡ s → n * up e / down e ≡ a / c → HasValue (round_with ratio_floor ratio_floor binary64 (fin t n e)) s (a / c) 1
+    go true f q = subst (λ (r : Bool). HasValue (round binary64 true (n * up e / down e) 1) r (a / c) 1) f
+        (subst (λ (z : ℕ). HasValue (round binary64 true z 1) true (a / c) 1) (sym q) (round_whole binary64 true (a / c) fits_in))
+    go false f q = subst (λ (r : Bool). HasValue (round binary64 false (n * up e / down e) 1) r (a / c) 1) f
+        (subst (λ (z : ℕ). HasValue (round binary64 false z 1) false (a / c) 1) (sym q) (round_whole binary64 false (a / c) fits_in))
+
+-- `==` of two values of one sign is that of their fractions, crosswise
+eq_is : (x y : Float) (s : Bool) (a c b d : ℕ) → 0 < c → 0 < d → HasValue x s a c → HasValue y s b d → eq x y ≡ eqb (a * d) (b * c)
+unfolding eq
+eq_is nan y s a c b d C D p q = absurd p
+eq_is (inf t) y s a c b d C D p q = absurd p
+eq_is (fin t m e) nan s a c b d C D p q = absurd q
+eq_is (fin t m e) (inf u) s a c b d C D p q = absurd q
+eq_is (fin t m e) (fin u n l) s a c b d C D p q =
+    let A = m * up e * down l in
+    let B = n * up l * down e in
+    let E = down e * down l in
+    let EP : 0 < E = mul-pos (down_pos e) (down_pos l) in
+    let CD : 0 < c * d = mul-pos C D in
+    let first : A * (c * d) ≡ a * d * E = mul-mul-mul_comm (m * up e) (down l) c d ∙ ap (λ (z : ℕ). z * (down l * d)) p.1 ∙ simp (mul_assoc, mul_comm, mul_left_comm) in
+    let second : B * (c * d) ≡ b * c * E =
+    ap (λ (z : ℕ). B * z) (mul_comm c d) ∙ mul-mul-mul_comm (n * up l) (down e) d c ∙ ap (λ (z : ℕ). z * (down e * c)) q.1 ∙ simp (mul_assoc, mul_comm, mul_left_comm) in
+    test_ext (eqb A B && (beq t u || eqb A 0)) (eqb (a * d) (b * c))
+    (λ h. eq→eqb (eq_of_mul-eq-mul_right E EP (a * d) (b * c) (sym first ∙ ap (λ (z : ℕ). z * (c * d)) (eqb→eq A B (and_l (eqb A B) (beq t u || eqb A 0) h)) ∙ second)))
+    (λ h. and_i (eqb A B) (beq t u || eqb A 0)
+    (eq→eqb (eq_of_mul-eq-mul_right (c * d) CD A B (first ∙ ap (λ (z : ℕ). z * E) (eqb→eq (a * d) (b * c) h) ∙ sym second)))
+    (or_left (beq t u) (eqb A 0) (same_sign t u (p.0 ∙ sym q.0))))
+  where
+    or_left : (a b : Bool) → T a → T (a || b)
+    or_left true b t = tt
+    or_left false b t = absurd t
+
+    same_sign : (t u : Bool) → t ≡ u → T (beq t u)
+    same_sign true true e = tt
+    same_sign true false e = absurd (true≢false e)
+    same_sign false true e = absurd (false≢true e)
+    same_sign false false e = tt
+
+-- a number is its whole part exactly where nothing is left
+none_over : (a c : ℕ) → 0 < c → eqb (a / c * c) (a * 1) ≡ eqb (a % c) 0
+none_over a c C =
+    test_ext (eqb (a / c * c) (a * 1)) (eqb (a % c) 0)
+    (λ h. eq→eqb (after (eqb→eq (a / c * c) (a * 1) h)))
+    (λ h. eq→eqb (before (eqb→eq (a % c) 0 h)))
+  where
+    parts : c * (a / c) + a % c ≡ a
+    parts = omega arith
+
+    after : a / c * c ≡ a * 1 → a % c ≡ 0
+    after e = let f : c * (a / c) ≡ a = mul_comm c (a / c) ∙ e ∙ mul-one a in omega arith
+
+    before : a % c ≡ 0 → a / c * c ≡ a * 1
+    before e = mul_comm (a / c) c ∙ (let f : c * (a / c) ≡ a = omega arith in f) ∙ sym (mul-one a)
+
+quarters : (s : Bool) (m : ℕ) (k : ℤ) → T (fits binary64 (fin s m k)) → m * up k ≤ 1000 * down k
+    → ne (trunc binary64 (mul binary64 (fin s m k) (fin false 1 (pos 2)))) (mul binary64 (fin s m k) (fin false 1 (pos 2))) ≡ not (eqb (m * up k * 4 % down k) 0)
+unfolding ne
+quarters s m k t h =
+    let y = mul binary64 (fin s m k) (fin false 1 (pos 2)) in
+    let a = m * up k * 4 in
+    let c = down k in
+    let v = four s m k t h in
+    ap not (eq_is (trunc binary64 y) y (unlike s false) (a / c) 1 a c (lit< tt) (down_pos k) (whole_part y (unlike s false) a c (down_pos k) (omega arith) v) v
+    ∙ none_over a c (down_pos k))
+
+-- `(x * 4.0).trunc() != x * 4.0`
+pub quarters_left : (x : Float) → T (fits binary64 x) → ne x x ≡ false → lt (fin false 125 (pos 3)) x ≡ false → eq x (inf true) ≡ false → lt x (fin false 0 (pos 0)) ≡ false
+    → ne (trunc binary64 (mul binary64 x (fin false 1 (pos 2)))) (mul binary64 x (fin false 1 (pos 2))) ≡ is_none (rule_of x)
+quarters_left nan t a b c d = absurd (nan_no a)
+quarters_left (inf s) t a b c d = absurd (inf_no s b c)
+quarters_left (fin true m k) t a b c d =
+    let z = minus_zero_lem m k d in
+    quarters true m k t (omega arith)
+    ∙ ap not (is_true (eqb (m * up k * 4 % down k) 0) (eq→eqb (ap (λ (y : ℕ). y * 4 % down k) z ∙ zero-mod (down k)))) ∙ sym (minus_none m k)
+quarters_left (fin false m k) t a b c d =
+    quarters false m k t (small m k b) ∙ ap not (sym (below_is (m * up k) (down k) (down_pos k) (small m k b))) ∙ sym (plus_none m k)
 
 -- ---- the rule that accepted settings read as
 

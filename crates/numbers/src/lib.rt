@@ -131,7 +131,9 @@ pub fn multiplier_wrong(x: f64) -> bool
     if x < 0.0 {
         return false;
     }
-    x % 0.25 != 0.0
+    // The remainder by a quarter would be C's fmod; four times x is exact, and whole where x is a whole number of quarters.
+    let quarters = x * 4.0;
+    quarters.trunc() != quarters
 }
 
 // The dense rule of settings whose multiplier is not refused.

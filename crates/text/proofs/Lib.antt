@@ -3,3 +3,4 @@ pub mod Steps
 pub mod Signs
 pub mod Walks
 pub mod Counts
+pub mod Parts

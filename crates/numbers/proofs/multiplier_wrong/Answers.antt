@@ -1,7 +1,7 @@
 -- `numbers::multiplier_wrong` meets its contract, test by test.
 use denote.Floats.{passes}
 use lib.Ieee.{binary64, fits, of_bits, neg, div}
-use Rattle.numbers.proofs.Multipliers.{not_a_number, above, least, below_zero, quarter_left}
+use Rattle.numbers.proofs.Multipliers.{not_a_number, above, least, below_zero, quarters_left}
 use Rattle.numbers.proofs.multiplier_wrong.Goals as goal
 
 pub returns-then-x : goal.returns-then-x
@@ -22,5 +22,5 @@ returns-then-x-4 c = below_zero c.args.x c.if-x-3.false c.if-x-4.true
 pub returns : goal.returns
 unfolding of_bits neg div
 returns c =
-    let s = c in
-    quarter_left s.args.x (passes (fits binary64 s.args.x) s.well_formed.0.1) c.if-x.false c.if-x-2.false c.if-x-3.false c.if-x-4.false
+    rw c.trunc.ensures
+    (quarters_left c.args.x (passes (fits binary64 c.args.x) c.well_formed.0.1) c.if-x.false c.if-x-2.false c.if-x-3.false c.if-x-4.false)
