@@ -2,6 +2,7 @@
 pub mod Steps
 pub mod Reaching
 pub mod Cursor
+pub mod Unwritten
 pub mod Traversal
 pub mod Writing
 pub mod Building

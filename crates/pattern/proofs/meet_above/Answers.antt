@@ -2,7 +2,7 @@ use borrow.Author.Rules.{rules}
 use Rattle.pattern.specs.Model.{met_part}
 use Rattle.pattern.proofs.Reaching.{until_none, until_more, until_stop, until_end}
 use Rattle.pattern.proofs.Steps.{meet_at_step}
-use Rattle.pattern.proofs.Traversal.{met_at_rows}
+use Rattle.pattern.proofs.Unwritten.{met_at_rows}
 use Rattle.pattern.proofs.meet_above.Goals as goal
 
 pub loop-p-init : goal.loop-p-init

@@ -2,7 +2,7 @@ use borrow.Author.Rules.{rules}
 use Rattle.pattern.specs.Model.{paired_part}
 use Rattle.pattern.proofs.Reaching.{until_none, until_more, until_stop, until_end}
 use Rattle.pattern.proofs.Steps.{pair_at_step}
-use Rattle.pattern.proofs.Traversal.{paired_at_rows}
+use Rattle.pattern.proofs.Unwritten.{paired_at_rows}
 use Rattle.pattern.proofs.pair_above.Goals as goal
 
 pub loop-p-init : goal.loop-p-init
