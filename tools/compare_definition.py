@@ -4,7 +4,7 @@
     python3 tools/compare_definition.py SRC [--work DIR]
 
 From the repository's root. SRC is the folder of the Rust's sources. In DIR, outside the repository (a temporary folder where none is
-named), the oracle is built and a repository of the crates plain, definition and comparison is written; `rt check comparison` proves it.
+named), the oracle is built and a repository of the crates plain, definition and comparison is written; `rt check` proves it.
 Outcomes: answer, permutation, inverse and the seven statistics, the Rust run in the same room.
 Lists: the neighbours of each row in order, against preprocess.rs and the first half of amd_1.rs, here line by line in Python.
 The cases are the same at every run.
@@ -370,7 +370,7 @@ def check(repository, modules):
     for name, (sheet, entries) in modules.items():
         (proofs / f"{name}.antt").write_text(module(sheet, entries))
     (proofs / "Lib.antt").write_text("".join(f"pub mod {name}\n" for name in ["Listed", *modules]))
-    done = subprocess.run(["rt", "check", "comparison"], cwd=repository, stdout=subprocess.PIPE, stderr=subprocess.STDOUT, text=True)
+    done = subprocess.run(["rt", "check"], cwd=repository / "crates" / "comparison", stdout=subprocess.PIPE, stderr=subprocess.STDOUT, text=True)
     failed = set(re.findall(r"proofs/(\w+)\.antt:\d+:\d+: error", done.stdout))
     if done.returncode and not failed & set(modules):
         sys.exit(done.stdout)
