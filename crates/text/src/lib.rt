@@ -129,6 +129,7 @@ fn minus(x: i32) -> i32
     0 - x
 }
 
+#[tactic(auto, unfolding(crate::specs::Numerals::signed))]
 fn signed(negative: bool, value: usize) -> i32
     requires { value < 2 ^ 31 }
     ensures { result ≡ signed negative value }

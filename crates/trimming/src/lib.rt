@@ -251,6 +251,7 @@ pub fn finish_list(s: &mut [i64], n: usize, i: usize, elements: usize, cnt: usiz
 }
 
 // The degree without the new element: the smaller of the old and `deg`.
+#[tactic(auto, unfolding(crate::specs::Model::lowered))]
 pub fn lower_degree(s: &mut [i64], n: usize, i: usize, deg: usize)
     requires { Room n s.old × (i < n) }
     ensures { (s.new ≡ lowered n i deg s.old) × Room n s.new }
