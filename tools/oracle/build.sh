@@ -1,6 +1,6 @@
 #!/bin/sh
 # build.sh SRC OUT [PROGRAM LIB]: OUT/PROGRAM (oracle, where none is named) from tools/PROGRAM, tools/shared and the unchanged Rust
-# sources in SRC (crate amd 0.2.2), as a release build. LIB is the static library that it links, crates/probe/out/libprobe.a.
+# sources in SRC (crate amd 0.2.2), as a release build. LIB is the static library that it links, target/staticlib/libprobe.a.
 set -eu
 tools=$(cd "$(dirname "$0")/.." && pwd)
 src=$(cd "$1" && pwd)

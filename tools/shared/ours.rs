@@ -1,4 +1,4 @@
-// The proved ordering, as `rt lib` exports it in the folder of `probe`. A slice crosses as a pointer and a length; nothing compares this declaration with crates/probe.
+// The proved ordering, as `probe_c` exports it. A slice crosses as a pointer and a length; nothing compares this declaration with crates/probe_c.
 #[link(name = "probe", kind = "static")]
 extern "C" {
     fn order_probe(

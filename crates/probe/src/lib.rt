@@ -31,8 +31,7 @@ fn put_statistics(cells: &mut [u64], x: Statistics)
 }
 
 // The ordering of the pattern of `n` columns, or the answer for which it is refused: the answer's number, for all inputs.
-#[unsafe(no_mangle)]
-pub extern "C" fn order_probe(
+pub fn order_probe(
     n: i32,
     pointers: &[i32],
     rows: &[i32],
