@@ -170,12 +170,14 @@ four s m k t h =
         subst (λ (z : ℕ). HasValue (round binary64 r (z * 4) D) r (z * 4) D) (sym e)
         (round_exact binary64 r 0 D 0 0 P (lit< tt) (lit< tt) (zero-mul (2 ^ 1074) ∙ sym (zero-mul D)))
 
-    go : (r : Bool) (k : ℤ) → T (fits binary64 (fin s m k)) → m * up k ≤ 1000 * down k → HasValue (round binary64 r (m * up k * 4) (down k)) r (m * up k * 4) (down k)
+    go : (r : Bool) (k : ℤ) → T (fits binary64 (fin s m k)) → m * up k ≤ 1000 * down k
+        → HasValue (round binary64 r (m * up k * 4) (down k)) r (m * up k * 4) (down k)
     go r (pos n) t h = round_small r (m * 2 ^ n * 4) 1 0 refl (omega arith) (omega arith)
     go r (negsuc j) t h = elim (small_of s m j t).1 [
       | inl z ↦ none r (m * 1) (2 ^ suc j) (pow_pos (suc j)) (ap (λ (y : ℕ). y * 1) z)
       | inr i ↦
-          let up4 : 2 ^ 1076 ≡ 2 ^ (1076 - suc j) * 2 ^ suc j = ap (λ (z : ℕ). 2 ^ z) (sym (back 1076 (suc j) (omega arith))) ∙ pow-add 2 (1076 - suc j) (suc j) in
+          let up4 : 2 ^ 1076 ≡ 2 ^ (1076 - suc j) * 2 ^ suc j = ap (λ (z : ℕ). 2 ^ z) (sym (back 1076 (suc j) (omega arith)))
+          ∙ pow-add 2 (1076 - suc j) (suc j) in
           subst (λ (a : ℕ). HasValue (round binary64 r (a * 4) (2 ^ suc j)) r (a * 4) (2 ^ suc j)) (sym (mul-one m))
           (round_exact binary64 r (m * 4) (2 ^ suc j) m (1076 - suc j) (pow_pos (suc j)) (small_of s m j t).0
           (lt_of_lt_of_le (shl_lt 53 (1076 - suc j) (small_of s m j t).0) (pow_mono {i = 53 + (1076 - suc j)} {j = 2098} (omega arith)))
@@ -213,11 +215,14 @@ eq_is (fin t m e) (fin u n l) s a c b d C D p q =
     let E = down e * down l in
     let EP : 0 < E = mul-pos (down_pos e) (down_pos l) in
     let CD : 0 < c * d = mul-pos C D in
-    let first : A * (c * d) ≡ a * d * E = mul-mul-mul_comm (m * up e) (down l) c d ∙ ap (λ (z : ℕ). z * (down l * d)) p.1 ∙ simp (mul_assoc, mul_comm, mul_left_comm) in
+    let first : A * (c * d) ≡ a * d * E = mul-mul-mul_comm (m * up e) (down l) c d ∙ ap (λ (z : ℕ). z * (down l * d)) p.1
+    ∙ simp (mul_assoc, mul_comm, mul_left_comm) in
     let second : B * (c * d) ≡ b * c * E =
-    ap (λ (z : ℕ). B * z) (mul_comm c d) ∙ mul-mul-mul_comm (n * up l) (down e) d c ∙ ap (λ (z : ℕ). z * (down e * c)) q.1 ∙ simp (mul_assoc, mul_comm, mul_left_comm) in
+    ap (λ (z : ℕ). B * z) (mul_comm c d) ∙ mul-mul-mul_comm (n * up l) (down e) d c ∙ ap (λ (z : ℕ). z * (down e * c)) q.1
+    ∙ simp (mul_assoc, mul_comm, mul_left_comm) in
     test_ext (eqb A B && (beq t u || eqb A 0)) (eqb (a * d) (b * c))
-    (λ h. eq→eqb (eq_of_mul-eq-mul_right E EP (a * d) (b * c) (sym first ∙ ap (λ (z : ℕ). z * (c * d)) (eqb→eq A B (and_l (eqb A B) (beq t u || eqb A 0) h)) ∙ second)))
+    (λ h. eq→eqb (eq_of_mul-eq-mul_right E EP (a * d) (b * c)
+    (sym first ∙ ap (λ (z : ℕ). z * (c * d)) (eqb→eq A B (and_l (eqb A B) (beq t u || eqb A 0) h)) ∙ second)))
     (λ h. and_i (eqb A B) (beq t u || eqb A 0)
     (eq→eqb (eq_of_mul-eq-mul_right (c * d) CD A B (first ∙ ap (λ (z : ℕ). z * E) (eqb→eq (a * d) (b * c) h) ∙ sym second)))
     (or_left (beq t u) (eqb A 0) (same_sign t u (p.0 ∙ sym q.0))))
@@ -249,7 +254,8 @@ none_over a c C =
     before e = mul_comm (a / c) c ∙ (let f : c * (a / c) ≡ a = omega arith in f) ∙ sym (mul-one a)
 
 quarters : (s : Bool) (m : ℕ) (k : ℤ) → T (fits binary64 (fin s m k)) → m * up k ≤ 1000 * down k
-    → ne (trunc binary64 (mul binary64 (fin s m k) (fin false 1 (pos 2)))) (mul binary64 (fin s m k) (fin false 1 (pos 2))) ≡ not (eqb (m * up k * 4 % down k) 0)
+    → ne (trunc binary64 (mul binary64 (fin s m k) (fin false 1 (pos 2)))) (mul binary64 (fin s m k) (fin false 1 (pos 2)))
+    ≡ not (eqb (m * up k * 4 % down k) 0)
 unfolding ne
 quarters s m k t h =
     let y = mul binary64 (fin s m k) (fin false 1 (pos 2)) in
@@ -260,7 +266,8 @@ quarters s m k t h =
     ∙ none_over a c (down_pos k))
 
 -- `(x * 4.0).trunc() != x * 4.0`
-pub quarters_left : (x : Float) → T (fits binary64 x) → ne x x ≡ false → lt (fin false 125 (pos 3)) x ≡ false → eq x (inf true) ≡ false → lt x (fin false 0 (pos 0)) ≡ false
+pub quarters_left : (x : Float) → T (fits binary64 x) → ne x x ≡ false → lt (fin false 125 (pos 3)) x ≡ false → eq x (inf true) ≡ false
+    → lt x (fin false 0 (pos 0)) ≡ false
     → ne (trunc binary64 (mul binary64 x (fin false 1 (pos 2)))) (mul binary64 x (fin false 1 (pos 2))) ≡ is_none (rule_of x)
 quarters_left nan t a b c d = absurd (nan_no a)
 quarters_left (inf s) t a b c d = absurd (inf_no s b c)

@@ -4,3 +4,4 @@ pub mod Signs
 pub mod Walks
 pub mod Counts
 pub mod Parts
+pub mod Inputs

@@ -2,7 +2,8 @@
 // What is read is promised whole (`read_numbers`). No contract says what is written: the functions that write are proved safe and ending.
 #![tactic(auto)]
 
-ghost use Rattle.std.specs.Prelude.{◌≡◌, ◌≤◌, ◌<◌, ◌^◌, pos, ◌-ℤ◌, length, IfOk};
+ghost use Rattle.std.specs.Prelude.{◌≡◌, ◌≤◌, ◌<◌, ◌^◌, pos, ◌-ℤ◌, length, take, ℕ, IfOk, IfErr};
+ghost use Rattle.std.specs.Io.KnownBytes.{Consumes, IsAtEnd};
 ghost use Rattle.std.specs.Int.{w32};
 ghost use Rattle.std.proofs.Common.{SFits};
 ghost use Rattle.text.specs.Numerals.{blank, longer, with_digit, with_other, grown, signed, page, kept, ended, stepped, read_text, reading_of, Small, Within};
@@ -231,9 +232,12 @@ pub fn read_numbers(text: &[u8], out: &mut [i32]) -> Reading
     reading_of(s)
 }
 
-// Reads into `bytes` from its start, until it is full or the input ends: how many bytes there are.
+// Reads into `bytes` from its start, until it is full or the input ends: how many bytes there are. They are the next of the input, where those are known.
 pub fn read_full<R: Read>(input: &mut R, bytes: &mut [u8]) -> io::Result<usize>
-    ensures { IfOk result (λ count. count ≤ length bytes.new) }
+    ensures within { IfOk result (λ n. n ≤ length bytes.new) }
+    ensures read { IfOk result (λ n. Consumes (R.remaining input.old) (R.remaining input.new) (take n bytes.new)) }
+    ensures failed { IfErr result (λ _. (n : ℕ) × (n ≤ length bytes.new) × Consumes (R.remaining input.old) (R.remaining input.new) (take n bytes.new)) }
+    ensures whole { IfOk result (λ n. n < length bytes.new → IsAtEnd (R.remaining input.new)) }
 {
     let mut count = 0;
     while count < bytes.len() {

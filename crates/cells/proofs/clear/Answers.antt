@@ -11,8 +11,12 @@ loop-left-init c = (refl, omega arith, fill_none (pos 0) c.args.l.now)
 pub loop-left-preserved : goal.loop-left-preserved
 loop-left-preserved c =
     let s = c in
-    let l₀ = s.args.l.now in
-    (length-set s.loop-left.l _ (pos 0) ∙ s.loop-left.invariant.0, omega arith, fill_more (pos 0) l₀ s.loop-left.l s.loop-left.left (omega arith) (omega arith) s.loop-left.invariant.2)
+    let l₀ = s.args.l.now in (
+      length-set s.loop-left.l _ (pos 0) ∙ s.loop-left.invariant.0,
+      omega arith,
+      fill_more (pos 0) l₀ s.loop-left.l s.loop-left.left (omega arith)
+          (omega arith) s.loop-left.invariant.2,
+    )
 
 pub shape_of-l : goal.shape_of-l
 shape_of-l c = c.loop-left.invariant.0

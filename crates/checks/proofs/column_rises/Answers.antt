@@ -20,8 +20,11 @@ returns-then-row-last c =
 pub loop-i-preserved : goal.loop-i-preserved
 loop-i-preserved c =
     let a = c.args in
-    let l = c.loop-i in
-    (omega arith, l.invariant.1 ∙ rises_on_lem a.rows.now a.to l.last l.i c.number_at-row.result (omega arith) (omega arith) c.number_at-row.ensures (omega arith))
+    let l = c.loop-i in (
+      omega arith,
+      l.invariant.1 ∙ rises_on_lem a.rows.now a.to l.last l.i c.number_at-row.result (omega arith) (omega arith) c.number_at-row.ensures
+          (omega arith),
+    )
 
 pub returns : goal.returns
 returns c =

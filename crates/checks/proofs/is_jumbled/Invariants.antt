@@ -10,7 +10,8 @@ use Rattle.checks.proofs.Pending.{columns_on}
 use Rattle.checks.proofs.is_jumbled.Given as goal
 
 abbrev pub invariant-loop-k : goal.invariant-loop-k
-invariant-loop-k l = (l.k ≤ l.n) × (jumbled (columns (pattern_given (pos l.n) l.pointers l.rows)) ≡ not (columns_on rises (column (pattern_given (pos l.n) l.pointers l.rows)) l.n l.k))
+invariant-loop-k l = (l.k ≤ l.n) × (jumbled (columns (pattern_given (pos l.n) l.pointers l.rows)) ≡ not (columns_on rises (column (pattern_given
+    (pos l.n) l.pointers l.rows)) l.n l.k))
 
 abbrev pub decreases-loop-k : goal.decreases-loop-k
 decreases-loop-k l = l.n - l.k

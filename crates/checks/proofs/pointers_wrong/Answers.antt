@@ -58,7 +58,8 @@ returns-then-most_entries-nnz c =
     let first = zero_read (at a.pointers 0) fits c.if-pointers-ne0.false in
     let over = ap (λ most. ltb most c.number_at-nnz.result) c.most_entries.ensures ∙ ap (ltb base_limits.most_entries) c.number_at-nnz.ensures in
     over
-    ∙ or_first (ltb base_limits.most_entries (nnz a)) (ltb (length a.rows) (nnz a)) (sym over ∙ lt-ltb c.most_entries.result c.number_at-nnz.result c.if-most_entries-nnz.true)
+    ∙ or_first (ltb base_limits.most_entries (nnz a)) (ltb (length a.rows) (nnz a)) (sym over
+    ∙ lt-ltb c.most_entries.result c.number_at-nnz.result c.if-most_entries-nnz.true)
     ∙ fault_total a (length_right a c.if-pointers-n.false) (first_right a first) (ap not (sym c.climbing.ensures ∙ c.if-not-climbing.false))
 
 pub returns-else-most_entries-nnz : goal.returns-else-most_entries-nnz
@@ -69,5 +70,6 @@ returns-else-most_entries-nnz c =
     let first = zero_read (at a.pointers 0) fits c.if-pointers-ne0.false in
     let over = ap (λ most. ltb most c.number_at-nnz.result) c.most_entries.ensures ∙ ap (ltb base_limits.most_entries) c.number_at-nnz.ensures in
     ap (ltb (length a.rows)) c.number_at-nnz.ensures
-    ∙ or_rest (ltb base_limits.most_entries (nnz a)) (ltb (length a.rows) (nnz a)) (sym over ∙ le-ltb c.most_entries.result c.number_at-nnz.result c.if-most_entries-nnz.false)
+    ∙ or_rest (ltb base_limits.most_entries (nnz a)) (ltb (length a.rows) (nnz a)) (sym over
+    ∙ le-ltb c.most_entries.result c.number_at-nnz.result c.if-most_entries-nnz.false)
     ∙ fault_total a (length_right a c.if-pointers-n.false) (first_right a first) (ap not (sym c.climbing.ensures ∙ c.if-not-climbing.false))

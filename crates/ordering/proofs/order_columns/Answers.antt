@@ -16,7 +16,8 @@ overflow_cast-columns c = to_number w32 c.args.n tt c.ranges.n.sfits (count_sign
 
 pub returns-then-columns-eq0 : goal.returns-then-columns-eq0
 returns-then-columns-eq0 c =
-    none_met _ _ _ _ _ _ _ _ c.args.a c.requires.answered c.requires.accepted _ (rw (read w32 c.args.n c.ranges.n.sfits) at c.if-columns-eq0.true) c.no_statistics.ensures
+    none_met _ _ _ _ _ _ _ _ c.args.a c.requires.answered c.requires.accepted _
+    (rw (read w32 c.args.n c.ranges.n.sfits) at c.if-columns-eq0.true) c.no_statistics.ensures
 
 pub blank-requires : goal.blank-requires
 blank-requires c = rw (read w32 c.args.n c.ranges.n.sfits) (enough _ _ _ _ _ _ _ _ c.args.a c.requires.answered c.requires.accepted)
@@ -24,7 +25,12 @@ blank-requires c = rw (read w32 c.args.n c.ranges.n.sfits) (enough _ _ _ _ _ _ _
 pub order_pattern-requires : goal.order_pattern-requires
 order_pattern-requires c =
     let w = within _ _ _ _ _ _ _ _ c.args.a c.requires.answered c.requires.accepted in
-    rw (read w32 c.args.n c.ranges.n.sfits) (rw (read w32 c.args.n c.ranges.n.sfits) at c.blank.ensures, some c.args.n (rw (read w32 c.args.n c.ranges.n.sfits) at c.if-columns-eq0.false), w.0, w.1)
+    rw (read w32 c.args.n c.ranges.n.sfits) (
+      rw (read w32 c.args.n c.ranges.n.sfits) at c.blank.ensures,
+      some c.args.n (rw (read w32 c.args.n c.ranges.n.sfits) at c.if-columns-eq0.false),
+      w.0,
+      w.1,
+    )
 
 pub returns : goal.returns
 returns c =

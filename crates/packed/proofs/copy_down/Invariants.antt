@@ -5,4 +5,5 @@ use Rattle.plain.specs.Turns.{Turned}
 use Rattle.packed.proofs.copy_down.Given as goal
 
 abbrev pub invariant-loop-k : goal.invariant-loop-k
-invariant-loop-k l = Turned (λ t m. wr m (l.e + t) (at m (l.p + t))) l.initial.lists l.k l.lists × (length l.lists ≡ length l.initial.lists) × Rows l.n l.lists × (l.k ≤ l.len)
+invariant-loop-k l = Turned (λ t m. wr m (l.e + t) (at m (l.p + t))) l.initial.lists l.k l.lists × (length l.lists ≡ length l.initial.lists)
+    × Rows l.n l.lists × (l.k ≤ l.len)

@@ -6,4 +6,5 @@ use Rattle.plain.specs.Turns.{Turned}
 use Rattle.packed.proofs.lay.Given as goal
 
 abbrev pub invariant-loop-t : goal.invariant-loop-t
-invariant-loop-t l = Turned (λ i xs. wr xs (l.e + i) (rd l.n TMP l.s i)) l.initial.lists l.t l.lists × (length l.lists ≡ length l.initial.lists) × Rows l.n l.lists × (l.t ≤ l.m)
+invariant-loop-t l = Turned (λ i xs. wr xs (l.e + i) (rd l.n TMP l.s i)) l.initial.lists l.t l.lists × (length l.lists ≡ length l.initial.lists)
+    × Rows l.n l.lists × (l.t ≤ l.m)

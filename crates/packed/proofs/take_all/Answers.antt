@@ -7,4 +7,10 @@ pub take_elements-t-requires : goal.take_elements-t-requires
 take_elements-t-requires c = search (rules, tabled_none)
 
 pub returns : goal.returns
-returns c = (search (rules, all_step), search rules, search rules, omega (arith, tabled_few _ _ _ c.take_part.ensures.2, c.before.before.requires.0.room, c.before.before.well_formed))
+returns c = (
+  search (rules, all_step),
+  search rules,
+  search rules,
+  omega
+      (arith, tabled_few _ _ _ c.take_part.ensures.2, c.requires.0.room, c.well_formed),
+)

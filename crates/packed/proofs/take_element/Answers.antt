@@ -4,7 +4,7 @@ use Rattle.std.proofs.Common.{rules}
 use Rattle.packed.proofs.take_element.Goals as goal
 
 pub take_part-requires : goal.take_part-requires
-take_part-requires c = (search rules, search rules, search rules, search rules, tabled_absorbed _ _ _ _ _ _ c.absorb.ensures.0 c.before.requires.3)
+take_part-requires c = (search rules, search rules, search rules, search rules, tabled_absorbed _ _ _ _ _ _ c.absorb.ensures.0 c.requires.3)
 
 pub returns : goal.returns
 returns c = search (rules, element_step)

@@ -5,4 +5,5 @@ use Rattle.plain.specs.Turns.{Turned}
 use Rattle.packed.proofs.take_part.Given as goal
 
 abbrev pub invariant-loop-i : goal.invariant-loop-i
-invariant-loop-i l = Turned (λ j. took l.n l.quota (at l.lists (l.p + j))) (taking l.initial.s l.initial.t) l.i (taking l.s l.t) × (length l.s ≡ length l.initial.s) × Room l.n l.s × Tabled l.n l.s l.t.cnt × (l.i ≤ l.m)
+invariant-loop-i l = Turned (λ j. took l.n l.quota (at l.lists (l.p + j))) (taking l.initial.s l.initial.t) l.i (taking l.s l.t)
+    × (length l.s ≡ length l.initial.s) × Room l.n l.s × Tabled l.n l.s l.t.cnt × (l.i ≤ l.m)

@@ -9,4 +9,5 @@ use Rattle.cells.specs.View.{Room}
 use Rattle.pattern.proofs.meet_columns.Given as goal
 
 abbrev pub invariant-loop-k : goal.invariant-loop-k
-invariant-loop-k l = Turned (met_column l.n) (heap l.initial.lists l.initial.s) l.k (heap l.lists l.s) × (length l.lists ≡ length l.initial.lists) × (length l.s ≡ length l.initial.s) × Room l.n l.s × Rows l.n l.lists × (l.k ≤ l.n)
+invariant-loop-k l = Turned (met_column l.n) (heap l.initial.lists l.initial.s) l.k (heap l.lists l.s) × (length l.lists ≡ length l.initial.lists)
+    × (length l.s ≡ length l.initial.s) × Room l.n l.s × Rows l.n l.lists × (l.k ≤ l.n)

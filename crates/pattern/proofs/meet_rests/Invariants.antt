@@ -9,4 +9,5 @@ use Rattle.cells.specs.View.{Room}
 use Rattle.pattern.proofs.meet_rests.Given as goal
 
 abbrev pub invariant-loop-j : goal.invariant-loop-j
-invariant-loop-j l = Turned (met_rest l.n) (heap l.initial.lists l.initial.s) l.j (heap l.lists l.s) × (length l.lists ≡ length l.initial.lists) × (length l.s ≡ length l.initial.s) × Room l.n l.s × Rows l.n l.lists × (l.j ≤ l.n)
+invariant-loop-j l = Turned (met_rest l.n) (heap l.initial.lists l.initial.s) l.j (heap l.lists l.s) × (length l.lists ≡ length l.initial.lists)
+    × (length l.s ≡ length l.initial.s) × Room l.n l.s × Rows l.n l.lists × (l.j ≤ l.n)

@@ -8,4 +8,5 @@ use Rattle.cells.specs.View.{Room}
 use Rattle.pattern.proofs.place_lists.Given as goal
 
 abbrev pub invariant-loop-i : goal.invariant-loop-i
-invariant-loop-i l = Turned (placed_list l.n) (spot l.initial.s 0) l.i (spot l.s l.free) × (length l.s ≡ length l.initial.s) × Room l.n l.s × (l.free < 2 ^ 63) × (l.i ≤ l.n)
+invariant-loop-i l = Turned (placed_list l.n) (spot l.initial.s 0) l.i (spot l.s l.free) × (length l.s ≡ length l.initial.s) × Room l.n l.s
+    × (l.free < 2 ^ 63) × (l.i ≤ l.n)

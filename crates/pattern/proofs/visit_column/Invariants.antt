@@ -8,4 +8,5 @@ use Rattle.cells.specs.View.{Room, at}
 use Rattle.pattern.proofs.visit_column.Given as goal
 
 abbrev pub invariant-loop-t : goal.invariant-loop-t
-invariant-loop-t l = Turned (λ u. visited l.n l.j (at l.rows (l.from + u))) l.initial.s l.t l.s × (length l.s ≡ length l.initial.s) × Room l.n l.s × (l.t ≤ l.count)
+invariant-loop-t l = Turned (λ u. visited l.n l.j (at l.rows (l.from + u))) l.initial.s l.t l.s × (length l.s ≡ length l.initial.s) × Room l.n l.s
+    × (l.t ≤ l.count)

@@ -9,4 +9,5 @@ use Rattle.tree.specs.Model.{owned}
 use Rattle.tree.proofs.own_all.Given as goal
 
 abbrev pub invariant-loop-t : goal.invariant-loop-t
-invariant-loop-t l = Turned (λ t m. owned l.n (rd l.n MERGES m (l.count - 1 - t)) m) l.initial.s l.t l.s × (length l.s ≡ length l.initial.s) × Room l.n l.s × (l.t ≤ l.count)
+invariant-loop-t l = Turned (λ t m. owned l.n (rd l.n MERGES m (l.count - 1 - t)) m) l.initial.s l.t l.s × (length l.s ≡ length l.initial.s) × Room l.n l.s
+    × (l.t ≤ l.count)
