@@ -11,3 +11,4 @@ pub mod Coding
 pub mod Segments
 pub mod Whole
 pub mod Rows
+pub mod Spaces

@@ -2,29 +2,23 @@
 -- Assumes nothing.
 use Prim.Native.Nat.{ℕ, ◌+◌, ◌-◌, ◌*◌, ◌<◌, ◌≤◌}
 use native.Mathlib.Omega.{arith}
-use mathlib.Core.Path.{◌≡◌, sym, ap, ◌∙◌}
+use mathlib.Core.Path.{◌≡◌, refl, sym, ap, ◌∙◌}
 use mathlib.Core.Bool.{false}
 use mathlib.Core.List.{List}
 use lib.IntN.{ℤ}
 use lib.ListN.{length}
-use Rattle.cells.specs.View.{at, wr, rd, up, negative, Room, plus}
+use Rattle.cells.specs.View.{at, wr, rd, up, place, negative, Room, plus}
 use Rattle.cells.proofs.Slices.{at_out, wr_out, plus_sum, plus_cap}
 use Rattle.cells.proofs.Fields.{place_hot, place_table, place_entry, within_node, within_not, within_column, within_columns_not, within_entry, rd_in, rd_out, up_in, up_out, room_up, table_end}
 
 -- ---- reads
 
 module _ (n : ℕ) (s : List ℤ) (i : ℕ) where
-  pub hot_read : (f r : ℕ) → r ≡ at s (8 * i + f) → f < 8 → i < n → r ≡ rd n f s i
-  hot_read f r e hf hi = rw (rd_in n f s i (within_node n f i (omega arith) hi), place_hot n f i hf) e
+  pub field_read : (f r : ℕ) → r ≡ at s (place n f i) → f < 15 → i < n → r ≡ rd n f s i
+  field_read f r e hf hi = rw (rd_in n f s i (within_node n f i hf hi)) e
 
-  pub table_read : (f r : ℕ) → r ≡ at s (f * n + i) → 8 ≤ f → f < 15 → i < n → r ≡ rd n f s i
-  table_read f r e hf hg hi = rw (rd_in n f s i (within_node n f i hg hi), place_table n f i hf (omega arith)) e
-
-  pub null_read : (f : ℕ) → f < 15 → n ≤ i → 0 ≡ rd n f s i
-  null_read f hf hi = sym (rd_out n f s i (within_not n f i hf hi))
-
-  pub hot_null : (f : ℕ) → f < 8 → n ≤ i → 0 ≡ rd n f s i
-  hot_null f hf hi = null_read f (omega arith) hi
+  pub field_none : (f : ℕ) → f < 15 → n ≤ i → 0 ≡ rd n f s i
+  field_none f hf hi = sym (rd_out n f s i (within_not n f i hf hi))
 
   pub column_read : (r : ℕ) → r ≡ at s (15 * n + i) → i ≤ n → r ≡ rd n 15 s i
   column_read r e hi = rw (rd_in n 15 s i (within_column n i hi), place_table n 15 i (omega arith) (omega arith)) e
@@ -41,55 +35,33 @@ module _ (n : ℕ) (s : List ℤ) (i : ℕ) where
 -- ---- stores
 
 module _ (n : ℕ) (s : List ℤ) (i v : ℕ) where
-  hot_store : (f : ℕ) (t : List ℤ) → t ≡ wr s (8 * i + f) v → f < 8 → i < n → t ≡ up n f s i v
-  hot_store f t e hf hi = rw (up_in n f s i v (within_node n f i (omega arith) hi), place_hot n f i hf) e
+  pub field_stored : (f : ℕ) (t : List ℤ) → t ≡ wr s (place n f i) v → f < 15 → i < n → t ≡ up n f s i v
+  field_stored f t e hf hi = rw (up_in n f s i v (within_node n f i hf hi)) e
 
-  table_store : (f : ℕ) (t : List ℤ) → t ≡ wr s (f * n + i) v → 8 ≤ f → f < 15 → i < n → t ≡ up n f s i v
-  table_store f t e hf hg hi = rw (up_in n f s i v (within_node n f i hg hi), place_table n f i hf (omega arith)) e
+  pub field_nowhere : (f : ℕ) → f < 15 → n ≤ i → s ≡ up n f s i v
+  field_nowhere f hf hi = sym (up_out n f s i v (within_not n f i hf hi))
 
-  pub null_store : (f : ℕ) → f < 15 → n ≤ i → s ≡ up n f s i v
-  null_store f hf hi = sym (up_out n f s i v (within_not n f i hf hi))
-
-  pub hot_nowhere : (f : ℕ) → f < 8 → n ≤ i → s ≡ up n f s i v
-  hot_nowhere f hf hi = null_store f (omega arith) hi
-
-  column_store : (t : List ℤ) → t ≡ wr s (15 * n + i) v → i ≤ n → t ≡ up n 15 s i v
-  column_store t e hi = rw (up_in n 15 s i v (within_column n i hi), place_table n 15 i (omega arith) (omega arith)) e
+  pub column_stored : (t : List ℤ) → t ≡ wr s (15 * n + i) v → i ≤ n → t ≡ up n 15 s i v
+  column_stored t e hi = rw (up_in n 15 s i v (within_column n i hi), place_table n 15 i (omega arith) (omega arith)) e
 
   pub column_nowhere : n < i → s ≡ up n 15 s i v
   column_nowhere hi = sym (up_out n 15 s i v (within_columns_not n i hi))
 
-  pub entry_store : (t : List ℤ) → t ≡ wr s (16 * n + 16 + i) v → t ≡ up n 16 s i v
-  entry_store t e = rw (up_in n 16 s i v (within_entry n i), place_entry n i) e
+  pub entry_stored : (t : List ℤ) → t ≡ wr s (16 * n + 16 + i) v → t ≡ up n 16 s i v
+  entry_stored t e = rw (up_in n 16 s i v (within_entry n i), place_entry n i) e
 
   pub entry_nowhere : 16 * n + 16 ≤ length s → length s - (16 * n + 16) ≤ i → s ≡ up n 16 s i v
-  entry_nowhere h k = entry_store s (sym (wr_out s (16 * n + 16 + i) v (omega arith)))
+  entry_nowhere h k = entry_stored s (sym (wr_out s (16 * n + 16 + i) v (omega arith)))
 
 -- a store keeps the room
-module _ (n : ℕ) (s : List ℤ) (i v : ℕ) (h : Room n s) where
-  still : (f : ℕ) (t : List ℤ) → t ≡ up n f s i v → (t ≡ up n f s i v) × Room n t
-  still f t e = (e, rw e (room_up n f s i v h))
-
-  pub hot_stored : (f : ℕ) (t : List ℤ) → t ≡ wr s (8 * i + f) v → f < 8 → i < n → (t ≡ up n f s i v) × Room n t
-  hot_stored f t e hf hi = still f t (hot_store n s i v f t e hf hi)
-
-  pub table_stored : (f : ℕ) (t : List ℤ) → t ≡ wr s (f * n + i) v → 8 ≤ f → f < 15 → i < n → (t ≡ up n f s i v) × Room n t
-  table_stored f t e hf hg hi = still f t (table_store n s i v f t e hf hg hi)
-
-  pub column_stored : (t : List ℤ) → t ≡ wr s (15 * n + i) v → i ≤ n → (t ≡ up n 15 s i v) × Room n t
-  column_stored t e hi = still 15 t (column_store n s i v t e hi)
-
-  pub entry_stored : (t : List ℤ) → t ≡ wr s (16 * n + 16 + i) v → (t ≡ up n 16 s i v) × Room n t
-  entry_stored t e = still 16 t (entry_store n s i v t e)
+pub room_stored : (n f : ℕ) (s : List ℤ) (i v : ℕ) (t : List ℤ) → t ≡ up n f s i v → Room n s → Room n t
+room_stored n f s i v t e h = rw e (room_up n f s i v h)
 
 -- ---- what a read finds is not negative
 
 module _ (n : ℕ) (s : List ℤ) (i : ℕ) (h : Room n s) where
-  pub hot_calm : (f : ℕ) → 0 < f → f < 8 → i < n → negative s (8 * i + f) ≡ false
-  hot_calm f z hf hi = rw (place_hot n f i hf) at (h.calm f i z (within_node n f i (omega arith) hi))
-
-  pub table_calm : (f : ℕ) → 8 ≤ f → f < 15 → i < n → negative s (f * n + i) ≡ false
-  table_calm f hf hg hi = rw (place_table n f i hf (omega arith)) at (h.calm f i (omega arith) (within_node n f i hg hi))
+  pub field_calm : (f : ℕ) → 0 < f → f < 15 → i < n → negative s (place n f i) ≡ false
+  field_calm f z hf hi = h.calm f i z (within_node n f i hf hi)
 
   pub column_calm : i ≤ n → negative s (15 * n + i) ≡ false
   column_calm hi = rw (place_table n 15 i (omega arith) (omega arith)) at (h.calm 15 i (omega arith) (within_column n i hi))
@@ -97,9 +69,17 @@ module _ (n : ℕ) (s : List ℤ) (i : ℕ) (h : Room n s) where
   pub entry_calm : negative s (16 * n + 16 + i) ≡ false
   entry_calm = rw (place_entry n i) at (h.calm 16 i (omega arith) (within_entry n i))
 
--- a table's cell is inside
-pub table_inside : (n f i l : ℕ) → f < 15 → i < n → 16 * n + 16 ≤ l → f * n + i < l
-table_inside n f i l hf hi hl = omega (arith, table_end n f i (omega arith) hi)
+-- a store in a field's cell keeps the room
+pub room_wr : (n f : ℕ) (s : List ℤ) (i v p : ℕ) (t : List ℤ) → t ≡ wr s p v → p ≡ place n f i → f < 15 → i < n → Room n s → Room n t
+room_wr n f s i v p t e k hf hi h = room_stored n f s i v t (field_stored n s i v f t (rw k at e) hf hi) h
+
+-- the cell of a field, and that it is inside
+pub place_node : (n f i r : ℕ) → r ≡ f → f < 8 → i < n → (8 * i + r ≡ place n f i) × (8 * i + r < 16 * n + 16)
+place_node n f i r e hf hi = rw (place_hot n f i hf) (rw e refl, omega arith)
+
+pub place_apart : (n f i r : ℕ) → r ≡ f → 8 ≤ f → f < 15 → i < n → (r * n + i ≡ place n f i) × (r * n + i < 16 * n + 16)
+place_apart n f i r e hf hg hi =
+    rw (place_table n f i hf (omega arith), e) (refl, omega (arith, table_end n f i (omega arith) hi))
 
 -- ---- the rest
 

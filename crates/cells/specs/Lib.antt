@@ -3,3 +3,5 @@ pub mod Layout
 pub mod View
 pub mod Rows
 pub mod Links
+pub mod Field
+pub mod Space

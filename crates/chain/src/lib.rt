@@ -2,12 +2,13 @@
 // store does nothing. Nothing here asks for lists that make sense: a contract is the function's own model, and the laws of `proofs/` say what it does to the lists.
 #![tactic(auto)]
 
-ghost use Rattle.std.specs.Prelude.{◌≡◌, ◌<◌, ◌^◌};
-ghost use Rattle.cells.specs.View.{Room};
+ghost use Rattle.std.specs.Prelude.{◌≡◌, ◌<◌, ◌≤◌, ◌^◌, ℕ, IfSome, IfNone};
 ghost use Rattle.chain.specs.Model.{relinked, removed, headed, pushed, emptied, enlisted_one, enlisted_all};
 ghost use Rattle.chain.specs.First.{First};
 
-// A row and the degree of the list that it is the front of; the row is n where there is none.
+use cells::{Field, Memory};
+
+// A row and the degree of the list that it is the front of.
 #[derive(Clone, Copy)]
 pub struct Pivot {
     pub me: usize,
@@ -15,103 +16,113 @@ pub struct Pivot {
 }
 
 // What stood before row `i`, or the head of its list where nothing did, goes on at `after`.
-fn relink(s: &mut [i64], n: usize, i: usize, before: usize, after: usize)
-    requires { Room n s.old × (i < n) × (after < 2 ^ 63) }
-    ensures { (s.new ≡ relinked n s.old i before after) × Room n s.new }
+#[tactic(auto, unfolding(crate::specs::Model::relinked))]
+fn relink(m: &mut Memory, i: usize, before: usize, after: usize)
+    requires { (i < m.old.n) × (after < 2 ^ 63) }
+    ensures { m.new ≡ record m.old { scratch = relinked m.old.n m.old.scratch i before after } }
 {
-    if before < n {
-        cells::set(s, n, cells::NEXT, before, after);
+    if before < m.columns() {
+        m.set(Field::Next, before, after);
     } else {
-        let d = cells::get(s, n, cells::DEGREE, i);
-        cells::put(s, n, cells::HEAD, d, after);
+        let d = m.get(Field::Degree, i);
+        m.up(Field::Head, d, after);
     }
 }
 
 // Takes row `i` out of the list that it stands in, wherever it stands there.
-pub fn take_out(s: &mut [i64], n: usize, i: usize)
-    requires { Room n s.old × (i < n) }
-    ensures { (s.new ≡ removed n s.old i) × Room n s.new }
+#[tactic(auto, unfolding(crate::specs::Model::removed))]
+pub fn take_out(m: &mut Memory, i: usize)
+    requires { i < m.old.n }
+    ensures { m.new ≡ record m.old { scratch = removed m.old.n m.old.scratch i } }
 {
-    let before = cells::get(s, n, cells::LAST, i);
-    let after = cells::get(s, n, cells::NEXT, i);
-    cells::up(s, n, cells::LAST, after, before);
-    relink(s, n, i, before, after);
+    let before = m.get(Field::Last, i);
+    let after = m.get(Field::Next, i);
+    m.up(Field::Last, after, before);
+    relink(m, i, before, after);
 }
 
 // Row `i` becomes the front of the list of degree `d`, which becomes its degree, before the row `front`.
-fn head_list(s: &mut [i64], n: usize, d: usize, front: usize, i: usize)
-    requires { Room n s.old × (d < n) × (front < 2 ^ 63) × (i < n) }
-    ensures { (s.new ≡ headed n s.old d front i) × Room n s.new }
+#[tactic(auto, unfolding(crate::specs::Model::headed))]
+fn head_list(m: &mut Memory, d: usize, front: usize, i: usize)
+    requires { (d < m.old.n) × (front < 2 ^ 63) × (i < m.old.n) }
+    ensures { m.new ≡ record m.old { scratch = headed m.old.n m.old.scratch d front i } }
 {
-    cells::set(s, n, cells::NEXT, i, front);
-    cells::set(s, n, cells::LAST, i, n);
-    cells::set(s, n, cells::DEGREE, i, d);
-    cells::note(s, n, cells::HEAD, d, i);
+    let n = m.columns();
+    m.set(Field::Next, i, front);
+    m.set(Field::Last, i, n);
+    m.set(Field::Degree, i, d);
+    m.set(Field::Head, d, i);
 }
 
 // Puts row `i` to the front of the list of degree `d`. What stood there is told last, since there may be nothing.
-pub fn put_front(s: &mut [i64], n: usize, d: usize, i: usize)
-    requires { Room n s.old × (d < n) × (i < n) }
-    ensures { (s.new ≡ pushed n s.old d i) × Room n s.new }
+#[tactic(auto, unfolding(crate::specs::Model::pushed))]
+pub fn put_front(m: &mut Memory, d: usize, i: usize)
+    requires { (d < m.old.n) × (i < m.old.n) }
+    ensures { m.new ≡ record m.old { scratch = pushed m.old.n m.old.scratch d i } }
 {
-    let front = cells::look(s, n, cells::HEAD, d);
-    head_list(s, n, d, front, i);
-    cells::up(s, n, cells::LAST, front, i);
+    let front = m.get(Field::Head, d);
+    head_list(m, d, front, i);
+    m.up(Field::Last, front, i);
 }
 
 // The front of the first list at or after the degree `least` that has one, and its degree.
-pub fn find_pivot(s: &[i64], n: usize, least: usize) -> Pivot
-    requires { Room n s.now }
-    ensures { First n s.now least result.me result.degree }
+pub fn find_pivot(m: &Memory, least: usize) -> Option<Pivot>
+    ensures first { IfSome result (λ p. First m.now.n m.now.scratch least p.me p.degree) }
+    ensures row { IfSome result (λ p. p.me < m.now.n) }
+    ensures degree { IfSome result (λ p. p.degree < 2 ^ 63) }
+    ensures none { IfNone result ((d : ℕ) × First m.now.n m.now.scratch least m.now.n d) }
 {
+    let n = m.columns();
     let mut d = least;
     loop {
         if n <= d {
-            break Pivot { me: n, degree: d };
+            break None;
         }
-        let front = cells::look(s, n, cells::HEAD, d);
+        let front = m.get(Field::Head, d);
         if front < n {
-            break Pivot {
+            break Some(Pivot {
                 me: front,
                 degree: d,
-            };
+            });
         }
         d += 1;
     }
 }
 
 // No list has a front.
-fn empty_lists(s: &mut [i64], n: usize)
-    requires { Room n s.old }
-    ensures { (s.new ≡ emptied n s.old) × Room n s.new }
+#[tactic(auto, using(plain::proofs::Turns::turns), unfolding(crate::specs::Model::emptied))]
+fn empty_lists(m: &mut Memory)
+    ensures { m.new ≡ record m.old { scratch = emptied m.old.n m.old.scratch } }
 {
+    let n = m.columns();
     for d in 0..n {
-        cells::note(s, n, cells::HEAD, d, n);
+        m.set(Field::Head, d, n);
     }
 }
 
 // Puts row `i` to the front of the list of its length: a row of length 0 and a row longer than the limit go into no list, and there is none for a row as long as `n`.
-fn enlist(s: &mut [i64], n: usize, limit: usize, i: usize)
-    requires { Room n s.old × (i < n) }
-    ensures { (s.new ≡ enlisted_one n limit i s.old) × Room n s.new }
+#[tactic(auto, unfolding(crate::specs::Model::enlisted_one))]
+fn enlist(m: &mut Memory, limit: usize, i: usize)
+    requires { i < m.old.n }
+    ensures { m.new ≡ record m.old { scratch = enlisted_one m.old.n limit i m.old.scratch } }
 {
-    let d = cells::get(s, n, cells::LEN, i);
+    let d = m.get(Field::Len, i);
     if 0 < d {
         if d <= limit {
-            if d < n {
-                put_front(s, n, d, i);
+            if d < m.columns() {
+                put_front(m, d, i);
             }
         }
     }
 }
 
 // The lists at the start: each row of a length from 1 to `limit`, in ascending order.
-pub fn enlist_all(s: &mut [i64], n: usize, limit: usize)
-    requires { Room n s.old }
-    ensures { (s.new ≡ enlisted_all n limit s.old) × Room n s.new }
+#[tactic(auto, using(plain::proofs::Turns::turns), unfolding(crate::specs::Model::enlisted_all))]
+pub fn enlist_all(m: &mut Memory, limit: usize)
+    ensures { m.new ≡ record m.old { scratch = enlisted_all m.old.n limit m.old.scratch } }
 {
-    empty_lists(s, n);
-    for i in 0..n {
-        enlist(s, n, limit, i);
+    empty_lists(m);
+    for i in 0..m.columns() {
+        enlist(m, limit, i);
     }
 }

@@ -1,32 +1,37 @@
 // The checks of document 01's answer table (valid.rs, and the sizes). Every slice is lent for reading only.
 #![tactic(auto)]
 
-ghost use Rattle.std.specs.Prelude.{◌≡◌, true, false, not, ◌&&◌, ◌||◌, map, ℕ, ◌+◌, ◌<◌, ◌≤◌, ltb, eqb, pos, nat_abs, length, get_or, take};
-ghost use Rattle.std.specs.Int.Signed.{non_neg};
+ghost use Rattle.std.specs.Prelude.{◌≡◌, true, false, not, ◌&&◌, ◌||◌, map, ℕ, ◌+◌, ◌<◌, ◌≤◌, ltb, eqb, pos, nat_abs, length, get_or, is_some, IfSome, IsTrue, ◌↔◌};
+ghost use Rattle.std.specs.List.{list_all};
 ghost use Rattle.std.proofs.Math.Seq.{slice};
-ghost use Rattle.plain.specs.Lists.{every, rises};
+ghost use Rattle.std.specs.Int.Signed.{le_z, lt_z, non_neg};
+ghost use Rattle.plain.specs.Lists.{rises};
 ghost use Rattle.definition.specs.Limits.{base_limits, outside, lists_room, scratch_room, room_within};
-ghost use Rattle.definition.specs.Pattern.{columns, jumbled, climbs, bad_pointers, bad_rows};
+ghost use Rattle.definition.specs.Pattern.{Pattern as Given, column_count, column, columns, nnz, jumbled, bad_pointers, bad_rows};
 ghost use Rattle.definition.specs.Answers.{answer_of, first_of};
 ghost use Rattle.numbers.specs.Meaning.{answer_meant};
 ghost use Rattle.checks.specs.Given.{pattern_given, problem_given, is_row, pattern_checks};
 
 use numbers::{Answer, Settings};
+use std::marker::Model;
 
 // ---- numbers
 
-// Whether a number is below 0 or above the most.
-fn is_outside(most: usize, x: i64) -> bool
-    ensures { result ≡ outside most x }
+// A number that is neither below 0 nor above the most.
+#[tactic(auto, unfolding(definition::specs::Limits::outside))]
+fn within(most: usize, x: i64) -> Option<usize>
+    ensures outside { is_some result ≡ not (outside most x) }
+    ensures number { IfSome result (λ k. (pos k ≡ x) × (k ≤ most)) }
 {
-    x < 0 || most < x as usize
+    usize::try_from(x).ok().filter(|&k| k <= most)
 }
 
-// Answer 2: n below 0 or above the most columns.
-pub fn count_wrong(n: i32) -> bool
-    ensures { result ≡ outside base_limits.most_columns n }
+// The number of columns. There is none, answer 2, of n below 0 or above the most columns.
+pub fn column_count(n: i32) -> Option<usize>
+    ensures outside { is_some result ≡ not (outside base_limits.most_columns n) }
+    ensures number { IfSome result (λ k. (pos k ≡ n) × (k ≤ base_limits.most_columns)) }
 {
-    is_outside(numbers::most_columns(), n as i64)
+    within(numbers::most_columns(), i64::from(n))
 }
 
 // Answer 4: an output not of length n.
@@ -39,6 +44,7 @@ pub fn outputs_wrong(n: usize, permutation: usize, inverse: usize) -> bool
 // ---- the room
 
 // The cells of lists that n columns and nnz entries need.
+#[tactic(auto, unfolding(definition::specs::Limits::base_limits, definition::specs::Limits::lists_room))]
 fn lists_cells(n: usize, nnz: usize) -> usize
     requires { (n ≤ base_limits.most_columns) × (nnz ≤ base_limits.most_entries) }
     ensures { result ≡ lists_room n nnz }
@@ -47,6 +53,7 @@ fn lists_cells(n: usize, nnz: usize) -> usize
 }
 
 // The cells of scratch that n columns and nnz entries need.
+#[tactic(auto, unfolding(definition::specs::Limits::base_limits, definition::specs::Limits::scratch_room))]
 fn scratch_cells(n: usize, nnz: usize) -> usize
     requires { (n ≤ base_limits.most_columns) × (nnz ≤ base_limits.most_entries) }
     ensures { result ≡ scratch_room n nnz }
@@ -62,31 +69,32 @@ pub fn room_wrong(n: usize, nnz: usize, lists: usize, scratch: usize) -> bool
     lists < lists_cells(n, nnz) || scratch < scratch_cells(n, nnz)
 }
 
-// Whether a number of columns or of entries is outside the limits.
-fn sizes_wrong(n: i64, nnz: i64) -> bool
-    ensures { result ≡ (outside base_limits.most_columns n || outside base_limits.most_entries nnz) }
+// A number of columns and one of entries, both within the limits.
+fn accept_sizes(n: i64, nnz: i64) -> Option<(usize, usize)>
+    ensures outside { is_some result ≡ not (outside base_limits.most_columns n || outside base_limits.most_entries nnz) }
+    ensures columns { IfSome result (λ p. (pos p.0 ≡ n) × (p.0 ≤ base_limits.most_columns)) }
+    ensures entries { IfSome result (λ p. (pos p.1 ≡ nnz) × (p.1 ≤ base_limits.most_entries)) }
 {
-    is_outside(numbers::most_columns(), n) || is_outside(numbers::most_entries(), nnz)
+    Some((
+        within(numbers::most_columns(), n)?,
+        within(numbers::most_entries(), nnz)?,
+    ))
 }
 
 // The room of lists for any two numbers, 0 outside the limits.
+#[tactic(auto, unfolding(definition::specs::Limits::room_within))]
 pub fn lists_room(n: i64, nnz: i64) -> usize
     ensures { result ≡ room_within base_limits lists_room n nnz }
 {
-    if sizes_wrong(n, nnz) {
-        return 0;
-    }
-    lists_cells(n as usize, nnz as usize)
+    accept_sizes(n, nnz).map_or(0, |(n, nnz)| lists_cells(n, nnz))
 }
 
 // The room of scratch for any two numbers, 0 outside the limits.
+#[tactic(auto, unfolding(definition::specs::Limits::room_within))]
 pub fn scratch_room(n: i64, nnz: i64) -> usize
     ensures { result ≡ room_within base_limits scratch_room n nnz }
 {
-    if sizes_wrong(n, nnz) {
-        return 0;
-    }
-    scratch_cells(n as usize, nnz as usize)
+    accept_sizes(n, nnz).map_or(0, |(n, nnz)| scratch_cells(n, nnz))
 }
 
 // ---- the pointers
@@ -101,35 +109,27 @@ pub fn number_at(numbers: &[i32], i: usize) -> usize
 }
 
 // Whether no pointer is below the one before it.
+#[tactic(auto, using(crate::proofs::Slices::is_le_told))]
 fn climbing(pointers: &[i32]) -> bool
-    ensures { result ≡ climbs pointers.now }
+    ensures { IsTrue result ↔ ((k : ℕ) → k + 1 < length pointers.now → IsTrue (le_z (get_or pointers.now k (pos 0)) (get_or pointers.now (k + 1) (pos 0)))) }
 {
-    let mut i = 1;
-    while i < pointers.len() {
-        if pointers[i] < pointers[i - 1] {
-            return false;
-        }
-        i += 1;
-    }
-    true
+    pointers.is_sorted()
 }
 
-// Answer 5: the pointers' length, the first, their order, or the last one.
-pub fn pointers_wrong(n: usize, pointers: &[i32], rows: &[i32]) -> bool
-    requires { n ≤ base_limits.most_columns }
-    ensures { result ≡ bad_pointers base_limits (pattern_given (pos n) pointers.now rows.now) }
-{
-    if pointers.len() != n + 1 {
-        return true;
-    }
-    if pointers[0] != 0 {
-        return true;
-    }
-    if !climbing(pointers) {
-        return true;
-    }
-    let nnz = number_at(pointers, n);
-    numbers::most_entries() < nnz || rows.len() < nnz
+// A pattern whose pointers are right: one more than columns, from 0 on, none below the one before it, the last within the limit and the rows.
+#[derive(Drop)]
+pub struct Pattern<'a> {
+    columns: usize,
+    pointers: &'a [i32],
+    rows: &'a [i32],
+}
+
+impl<'a> Model for Pattern<'a> {
+    ghost Value = { Given };
+
+    ghost view = { λ p. pattern_given (pos p.columns) p.pointers.now p.rows.now };
+
+    ghost invariant = { λ p. bad_pointers base_limits (pattern_given (pos p.columns) p.pointers.now p.rows.now) ≡ false };
 }
 
 // ---- the rows
@@ -138,104 +138,129 @@ pub fn pointers_wrong(n: usize, pointers: &[i32], rows: &[i32]) -> bool
 fn row_right(row: i32, n: usize) -> bool
     ensures { result ≡ is_row (pos n) row }
 {
-    0 <= row && (row as usize) < n
+    usize::try_from(row).is_ok_and(|row| row < n)
 }
 
-// Whether each of the first nnz rows is one of n.
-fn rows_right(n: usize, nnz: usize, rows: &[i32]) -> bool
-    requires { nnz ≤ length rows.now }
-    ensures { result ≡ every (is_row (pos n)) (take nnz rows.now) }
+// Whether each row is one of n.
+fn rows_right(rows: &[i32], n: usize) -> bool
+    ensures { result ≡ list_all (is_row (pos n)) rows.now }
 {
-    let mut i = 0;
-    while i < nnz {
-        if !row_right(rows[i], n) {
-            return false;
-        }
-        i += 1;
-    }
-    true
+    rows.iter().all(|&row| row_right(row, n))
+}
+
+// Whether each row is above the one before it.
+fn rising(rows: &[i32]) -> bool
+    ensures { IsTrue result ↔ ((k : ℕ) → k + 1 < length rows.now → IsTrue (lt_z (get_or rows.now k (pos 0)) (get_or rows.now (k + 1) (pos 0)))) }
+{
+    rows.windows(2).all(|pair| pair[0] < pair[1])
 }
 
 // Whether the rows from `from` up to `to` rise. None of them is below zero.
-fn column_rises(rows: &[i32], from: usize, to: usize) -> bool
+fn rises(rows: &[i32], from: usize, to: usize) -> bool
+    requires order { from ≤ to }
     requires within { to ≤ length rows.now }
     requires signs { (k : ℕ) → k < to → non_neg (get_or rows.now k (pos 0)) ≡ true }
     ensures { result ≡ rises (map nat_abs (slice from to rows.now)) }
 {
-    if to <= from {
-        return true;
-    }
-    let mut last = number_at(rows, from);
-    let mut i = from + 1;
-    while i < to {
-        let row = number_at(rows, i);
-        if row <= last {
-            return false;
-        }
-        last = row;
-        i += 1;
-    }
-    true
+    rising(&rows[from..to])
 }
 
-// Answer 6: one of the first nnz rows below 0, or n or more. Rows past nnz are not looked at.
-pub fn rows_wrong(n: usize, pointers: &[i32], rows: &[i32]) -> bool
-    requires { bad_pointers base_limits (pattern_given (pos n) pointers.now rows.now) ≡ false }
-    ensures { result ≡ bad_rows (pattern_given (pos n) pointers.now rows.now) }
-{
-    let nnz = number_at(pointers, n);
-    !rows_right(n, nnz, rows)
-}
-
-// Answer 1: some column has a row not above the row before it.
-pub fn is_jumbled(n: usize, pointers: &[i32], rows: &[i32]) -> bool
-    requires pointers { bad_pointers base_limits (pattern_given (pos n) pointers.now rows.now) ≡ false }
-    requires rows { bad_rows (pattern_given (pos n) pointers.now rows.now) ≡ false }
-    ensures { result ≡ jumbled (columns (pattern_given (pos n) pointers.now rows.now)) }
-{
-    let mut k = 0;
-    while k < n {
-        let from = number_at(pointers, k);
-        let to = number_at(pointers, k + 1);
-        if !column_rises(rows, from, to) {
-            return true;
+impl<'a> Pattern<'a> {
+    // There is none, answer 5, where a pointer is wrong.
+    pub fn new(columns: usize, pointers: &'a [i32], rows: &'a [i32]) -> Option<Pattern<'a>>
+        ensures pointed { is_some result ≡ not (bad_pointers base_limits (pattern_given (pos columns) pointers.now rows.now)) }
+        ensures given { IfSome result (λ p. p ≡ pattern_given (pos columns) pointers.now rows.now) }
+    {
+        if pointers.is_empty() || pointers.len() - 1 != columns {
+            return None;
         }
-        k += 1;
+        if pointers[0] != 0 || !climbing(pointers) {
+            return None;
+        }
+        let nnz = number_at(pointers, columns);
+        if numbers::most_entries() < nnz || rows.len() < nnz {
+            return None;
+        }
+        Some(Pattern {
+            columns,
+            pointers,
+            rows,
+        })
     }
-    false
+
+    // The number of columns.
+    pub fn columns(&self) -> usize
+        ensures { result ≡ column_count self.now }
+    {
+        self.columns
+    }
+
+    // The number of entries, which is the last pointer.
+    pub fn entries(&self) -> usize
+        ensures nnz { result ≡ nnz self.now }
+        ensures limited { result ≤ base_limits.most_entries }
+    {
+        number_at(self.pointers, self.columns)
+    }
+
+    // Answer 6: one of the first nnz rows below 0, or n or more. Rows past nnz are not looked at.
+    pub fn rows_wrong(&self) -> bool
+        ensures { result ≡ bad_rows self.now }
+    {
+        !rows_right(&self.rows[..self.entries()], self.columns)
+    }
+
+    // Whether the rows of column k rise.
+    fn column_rises(&self, k: usize) -> bool
+        requires within { k < column_count self.now }
+        requires rows { bad_rows self.now ≡ false }
+        ensures { result ≡ rises (column self.now k) }
+    {
+        let from = number_at(self.pointers, k);
+        let to = number_at(self.pointers, k + 1);
+        rises(self.rows, from, to)
+    }
+
+    // Answer 1: some column has a row not above the row before it.
+    pub fn is_jumbled(&self) -> bool
+        requires { bad_rows self.now ≡ false }
+        ensures { result ≡ jumbled (columns self.now) }
+    {
+        (0..self.columns()).any(|k| !self.column_rises(k))
+    }
 }
 
 // ---- the table
 
 // From answer 5 on: the pattern and the room.
-fn check_pattern(n: usize, pointers: &[i32], rows: &[i32], lists: usize, scratch: usize) -> Answer
-    requires { n ≤ base_limits.most_columns }
-    ensures { answer_meant result ≡ first_of (pattern_checks (pattern_given (pos n) pointers.now rows.now) lists scratch) }
+#[tactic(auto, unfolding(crate::specs::Given::pattern_checks, definition::specs::Answers::first_of))]
+fn check_pattern(
+    columns: usize,
+    pointers: &[i32],
+    rows: &[i32],
+    lists: usize,
+    scratch: usize,
+) -> Answer
+    requires { columns ≤ base_limits.most_columns }
+    ensures { answer_meant result ≡ first_of (pattern_checks (pattern_given (pos columns) pointers.now rows.now) lists scratch) }
 {
-    if pointers_wrong(n, pointers, rows) {
+    let Some(pattern) = Pattern::new(columns, pointers, rows) else {
         return Answer::WrongPointers;
-    }
-    if rows_wrong(n, pointers, rows) {
+    };
+    if pattern.rows_wrong() {
         return Answer::WrongRows;
     }
-    if room_wrong(n, number_at(pointers, n), lists, scratch) {
+    if room_wrong(columns, pattern.entries(), lists, scratch) {
         return Answer::WrongRoom;
     }
-    if is_jumbled(n, pointers, rows) {
+    if pattern.is_jumbled() {
         return Answer::OrderedJumbled;
     }
     Answer::Ordered
 }
 
-// The number of columns of an accepted count.
-fn column_count(n: i32) -> usize
-    requires { outside base_limits.most_columns n ≡ false }
-    ensures { (pos result ≡ n) × (result ≤ base_limits.most_columns) }
-{
-    n as usize
-}
-
-// The whole table: the first check that applies is the answer.
+// The whole table: the first check that applies is the answer. No Result: what is accepted has an answer too, so both sides would be one.
+#[tactic(auto, unfolding(definition::specs::Answers::answer_of, definition::specs::Answers::answer_within, definition::specs::Answers::checks, definition::specs::Answers::first_of, definition::specs::Answers::bad_multiplier, definition::specs::Answers::bad_outputs, definition::specs::Answers::bad_room, definition::specs::Pattern::bad_count, crate::specs::Given::pattern_checks))]
 pub fn check(
     n: i32,
     pointers: &[i32],
@@ -248,15 +273,14 @@ pub fn check(
 ) -> Answer
     ensures { answer_meant result ≡ answer_of (problem_given (pattern_given n pointers.now rows.now) settings.multiplier settings.aggressive permutation inverse lists scratch) }
 {
-    if count_wrong(n) {
+    let Some(columns) = column_count(n) else {
         return Answer::WrongCount;
-    }
+    };
     if numbers::multiplier_wrong(settings.multiplier) {
         return Answer::WrongMultiplier;
     }
-    let count = column_count(n);
-    if outputs_wrong(count, permutation, inverse) {
+    if outputs_wrong(columns, permutation, inverse) {
         return Answer::WrongOutputs;
     }
-    check_pattern(count, pointers, rows, lists, scratch)
+    check_pattern(columns, pointers, rows, lists, scratch)
 }

@@ -1,5 +1,4 @@
 -- The modules of `merging` that belong to no one function.
-pub mod Steps
 pub mod Walks
 pub mod Marks
 pub mod Joins

@@ -189,7 +189,7 @@ module _ (n : ℕ) (l : List ℤ) (p : ℕ) (new : List ℕ) (cnt base lim : ℕ
 
   ran_none : (k c : ℕ) (s : List ℤ) (h : Graph) (x : ℕ) (t : Tally) → Ready s h x [] t → Left s h [] t (merge_all one_key [] h) 0 (bucket_run l n k c x (merging s t))
   ran_none k c s h x t r =
-      rw (run_over l n k 0 0 (merging s t) c x (merging s t) (omega (arith, r.chain)), none_merged h)
+      rw (run_over l n k c x (merging s t) (omega (arith, r.chain)), none_merged h)
       record {
         now = r.now;
         next = λ v e. refl;
@@ -206,7 +206,7 @@ module _ (n : ℕ) (l : List ℤ) (p : ℕ) (new : List ℕ) (cnt base lim : ℕ
       → Left s h (i ∷ []) t (merge_all one_key (i ∷ []) h) 1 (bucket_run l n k c x (merging s t))
   unfolding keep
   ran_alone k c s h x i t r =
-      rw (r.chain.0, run_alone l n k 0 0 (merging s t) c i (merging s t) (omega (arith, r.chain.2)), split_all s h x i [] t r, none_merged h)
+      rw (r.chain.0, run_alone l n k c i (merging s t) (omega (arith, r.chain.2)), split_all s h x i [] t r, none_merged h)
       record {
         now = r.now;
         next = λ v e. refl;

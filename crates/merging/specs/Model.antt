@@ -63,10 +63,6 @@ pub record Slight (n : ℕ) (w : Walk) : Type 0 where
   pub next : w.next < 2 ^ 63
   pub logged : w.logged < 2 ^ 63
 
-pub record Bounded (t : Tally) : Type 0 where
-  pub flag : t.flag < 2 ^ 63
-  pub logged : t.logged < 2 ^ 63
-
 -- the scratch, and where the walk stands
 pub record Comparing : Type 0 where
   pub mem : List ℤ

@@ -1,13 +1,17 @@
-// Step 5 of a pivot: the rows of the new element that have one key stand in one bucket, linked newest first; of those, each is compared with the ones behind it, and
-// takes those that have its list. A walk along links makes at most as many turns as the new element has rows, so that it ends in any memory.
-// Nothing here asks for a memory that makes sense, but for rows in the list space: a contract is the function's own model, and the laws of `proofs/` say what it does to the graph.
+// Step 5 of a pivot: the rows of the new element that have one key stand in one bucket, linked newest first; of those, each is compared with the ones behind
+// it, and takes those that have its list. A walk along links makes at most as many turns as the new element has rows, so that it ends in any memory.
+// Nothing here asks for a memory that makes sense: a contract is the function's own model, and the laws of `proofs/` say what it does to the graph.
 #![tactic(auto)]
 
 ghost use Rattle.std.specs.Prelude.{◌≡◌, ◌<◌, ◌^◌, length};
-ghost use Rattle.cells.specs.View.{Room, at, up};
-ghost use Rattle.cells.specs.Rows.{Rows};
 ghost use Rattle.cells.specs.Layout.{W};
-ghost use Rattle.merging.specs.Model.{Bounded, Slight, comparing, merging, marking, marked_list, all_marked, tail_marked, same_elements, alike_now, weighed, left, joined, taken_next, compared, merged_into, merged_at, bucket_run, merged_key, merged_row, merged_rows};
+ghost use Rattle.cells.specs.Space.{SameLists};
+ghost use Rattle.cells.specs.View.{at, up};
+ghost use Rattle.merging.specs.Model.{Slight, comparing, merging, marking, marked_list, all_marked, tail_marked, same_elements, alike_now, weighed, left};
+ghost use Rattle.merging.specs.Model.{joined, taken_next, compared, merged_into, merged_at, bucket_run, merged_key, merged_row, merged_rows};
+
+use cells::{Field, Memory};
+use std::marker::Model;
 
 // Where a walk along a bucket stands: the row before the next one, the next one, and how many merges are logged.
 #[derive(Clone, Copy)]
@@ -17,59 +21,81 @@ pub struct Walk {
     pub logged: usize,
 }
 
-// The flag to mark with, and how many merges are logged.
+// The flag to mark with, and how many merges are logged: both are numbers of a cell.
 #[derive(Clone, Copy)]
 pub struct Tally {
     pub flag: usize,
     pub logged: usize,
 }
 
+impl Model for Tally {
+    ghost use Rattle.merging.specs.Tally.{Counts, Bounded};
+
+    ghost Value = { Counts };
+
+    ghost view = { λ t. record { flag = t.flag; logged = t.logged } };
+
+    ghost invariant = { λ t. Bounded (record { flag = t.flag; logged = t.logged }) };
+
+    ghost inverse = { λ c. record { flag = c.flag; logged = c.logged } };
+}
+
+// What a row is compared with: a list of this length with so many elements, whose entries are marked with the flag.
+#[derive(Clone, Copy)]
+struct Shape {
+    len: usize,
+    elen: usize,
+    flag: usize,
+}
+
 // ---- marks
 
 // The row in cell `q` of the lists is marked.
-fn mark_one(lists: &[i64], s: &mut [i64], n: usize, q: usize, flag: usize)
-    requires { Room n s.old × Rows n lists.now × (q < length lists.now) × (flag < 2 ^ 63) }
-    ensures { (s.new ≡ up n W s.old (at lists.now q) flag) × Room n s.new }
+fn mark_one(m: &mut Memory, q: usize, flag: usize)
+    requires cell { q < length m.old.lists }
+    requires small { flag < 2 ^ 63 }
+    ensures { m.new ≡ record m.old { scratch = up m.old.n W m.old.scratch (at m.old.lists q) flag } }
 {
-    let x = cells::row(lists, n, q);
-    cells::set(s, n, cells::W, x, flag);
+    let x = m.row(q);
+    m.set(Field::W, x, flag);
 }
 
 // The rows in the `k` cells from `p` on, as far as they are there, are marked.
-fn mark_part(lists: &[i64], s: &mut [i64], n: usize, p: usize, k: usize, flag: usize)
-    requires { Room n s.old × Rows n lists.now × (flag < 2 ^ 63) }
-    ensures { (s.new ≡ marking lists.now n flag p k s.old) × Room n s.new }
+#[tactic(auto, unfolding(plain::specs::Turns::times, cells::specs::Rows::clipped, crate::specs::Model::marking))]
+fn mark_part(m: &mut Memory, p: usize, k: usize, flag: usize)
+    requires { flag < 2 ^ 63 }
+    ensures { m.new ≡ record m.old { scratch = marking m.old.lists m.old.n flag p k m.old.scratch } }
 {
-    let m = cells::clip(lists.len(), p, k);
-    for t in 0..m {
-        mark_one(lists, s, n, p + t, flag);
+    for t in 0..m.clip(p, k) {
+        mark_one(m, p + t, flag);
     }
 }
 
 // The entries of the list of `i` after the first are marked.
-fn mark_entries(lists: &[i64], s: &mut [i64], n: usize, i: usize, flag: usize)
-    requires { Room n s.old × Rows n lists.now × (i < n) × (flag < 2 ^ 63) }
-    ensures { (s.new ≡ marked_list lists.now n flag i s.old) × Room n s.new }
+#[tactic(auto, unfolding(crate::specs::Model::marked_list))]
+fn mark_entries(m: &mut Memory, i: usize, flag: usize)
+    requires node { i < m.old.n }
+    requires small { flag < 2 ^ 63 }
+    ensures { m.new ≡ record m.old { scratch = marked_list m.old.lists m.old.n flag i m.old.scratch } }
 {
-    let p = cells::get(s, n, cells::PE, i);
-    let k = cells::get(s, n, cells::LEN, i);
-    let rest = cells::less(k, 1);
-    mark_part(lists, s, n, p + 1, rest, flag);
+    let p = m.get(Field::Pe, i);
+    let k = m.get(Field::Len, i);
+    mark_part(m, p + 1, k.saturating_sub(1), flag);
 }
 
 // ---- the comparison
 
 // Are the rows in the `k` cells from `p` on, as far as they are there, all marked?
-fn all_marked(lists: &[i64], s: &[i64], n: usize, p: usize, k: usize, flag: usize) -> bool
-    requires { Room n s.now × Rows n lists.now }
-    ensures { result ≡ all_marked lists.now n s.now p k flag }
+// The labelled exit stays: the user named this form for the comparison of rows.
+#[tactic(auto, using(crate::proofs::Walks::mark_turns))]
+fn all_marked(m: &Memory, p: usize, k: usize, flag: usize) -> bool
+    ensures { result ≡ all_marked m.now.lists m.now.n m.now.scratch p k flag }
 {
-    let m = cells::clip(lists.len(), p, k);
+    let there = m.clip(p, k);
     let mut t = 0;
-    'entries: while t < m {
-        let x = cells::row(lists, n, p + t);
-        let w = cells::get(s, n, cells::W, x);
-        if w == flag {
+    'entries: while t < there {
+        let x = m.row(p + t);
+        if m.get(Field::W, x) == flag {
             t += 1;
             continue 'entries;
         }
@@ -79,260 +105,227 @@ fn all_marked(lists: &[i64], s: &[i64], n: usize, p: usize, k: usize, flag: usiz
 }
 
 // Are the entries of the list of `j` after the first, `len` being its length, all marked?
-fn tail_marked(lists: &[i64], s: &[i64], n: usize, j: usize, len: usize, flag: usize) -> bool
-    requires { Room n s.now × Rows n lists.now × (j < n) }
-    ensures { result ≡ tail_marked lists.now n s.now j len flag }
+#[tactic(auto, unfolding(crate::specs::Model::tail_marked))]
+fn tail_marked(m: &Memory, j: usize, len: usize, flag: usize) -> bool
+    requires { j < m.now.n }
+    ensures { result ≡ tail_marked m.now.lists m.now.n m.now.scratch j len flag }
 {
-    let p = cells::get(s, n, cells::PE, j);
-    let rest = cells::less(len, 1);
-    all_marked(lists, s, n, p + 1, rest, flag)
+    let p = m.get(Field::Pe, j);
+    let rest = len.saturating_sub(1);
+    all_marked(m, p + 1, rest, flag)
 }
 
-// Has `j` as many elements as `elen`, and is the rest of its list, of length `len`, marked?
-fn same_elements(
-    lists: &[i64],
-    s: &[i64],
-    n: usize,
-    j: usize,
-    len: usize,
-    elen: usize,
-    flag: usize,
-) -> bool
-    requires { Room n s.now × Rows n lists.now × (j < n) }
-    ensures { result ≡ same_elements lists.now n s.now j len elen flag }
+// Has `j` as many elements as the shape, and is the rest of its list, of the shape's length, marked?
+#[tactic(auto, unfolding(crate::specs::Model::same_elements))]
+fn same_elements(m: &Memory, j: usize, shape: Shape) -> bool
+    requires { j < m.now.n }
+    ensures { result ≡ same_elements m.now.lists m.now.n m.now.scratch j shape.len shape.elen shape.flag }
 {
-    let own = cells::get(s, n, cells::ELEN, j);
-    if elen == own {
-        tail_marked(lists, s, n, j, len, flag)
-    } else {
-        false
-    }
+    shape.elen == m.get(Field::Elen, j) && tail_marked(m, j, shape.len, shape.flag)
 }
 
-// Has `j` the list whose entries are marked, of length `len` with `elen` elements? Never read past the list of `j`.
-fn alike(lists: &[i64], s: &[i64], n: usize, j: usize, len: usize, elen: usize, flag: usize) -> bool
-    requires { Room n s.now × Rows n lists.now × (j < n) }
-    ensures { result ≡ alike_now lists.now n s.now j len elen flag }
+// Has `j` a list of this shape? Never read past the list of `j`.
+#[tactic(auto, unfolding(crate::specs::Model::alike_now))]
+fn alike(m: &Memory, j: usize, shape: Shape) -> bool
+    requires { j < m.now.n }
+    ensures { result ≡ alike_now m.now.lists m.now.n m.now.scratch j shape.len shape.elen shape.flag }
 {
-    let own = cells::get(s, n, cells::LEN, j);
-    if len == own {
-        same_elements(lists, s, n, j, own, elen, flag)
-    } else {
-        false
-    }
+    shape.len == m.get(Field::Len, j) && same_elements(m, j, shape)
 }
 
 // ---- a merge
 
 // The weight of `j` goes to `i`.
-fn add_weight(s: &mut [i64], n: usize, i: usize, j: usize)
-    requires { Room n s.old × (i < n) × (j < n) }
-    ensures { (s.new ≡ weighed n s.old i j) × Room n s.new }
+#[tactic(auto, unfolding(crate::specs::Model::weighed))]
+fn add_weight(m: &mut Memory, i: usize, j: usize)
+    requires taker { i < m.old.n }
+    requires taken { j < m.old.n }
+    ensures weighed { m.new ≡ record m.old { scratch = weighed m.old.n m.old.scratch i j } }
+    ensures bound { m.old.n < 2 ^ 56 }
 {
-    let a = cells::look(s, n, cells::NV, i);
-    let b = cells::look(s, n, cells::NV, j);
+    let a = m.get(Field::Nv, i);
+    let b = m.get(Field::Nv, j);
     let c = cells::plus(a, b);
-    cells::note(s, n, cells::NV, i, c);
-    cells::note(s, n, cells::NV, j, 0);
+    m.set(Field::Nv, i, c);
+    m.set(Field::Nv, j, 0);
 }
 
 // Row `j` has no list any more, and hangs from `i`.
-fn leave(s: &mut [i64], n: usize, i: usize, j: usize)
-    requires { Room n s.old × (j < n) }
-    ensures { (s.new ≡ left n s.old i j) × Room n s.new }
+#[tactic(auto, unfolding(crate::specs::Model::left))]
+fn leave(m: &mut Memory, i: usize, j: usize)
+    requires { j < m.old.n }
+    ensures { m.new ≡ record m.old { scratch = left m.old.n m.old.scratch i j } }
 {
-    cells::set(s, n, cells::LEN, j, 0);
-    cells::put_parent(s, n, j, i);
+    m.set(Field::Len, j, 0);
+    m.set_parent(j, Some(i));
 }
 
 // Row `j` is merged into `i`, as merge number `logged`.
-fn merge(s: &mut [i64], n: usize, i: usize, j: usize, logged: usize)
-    requires { Room n s.old × (i < n) × (j < n) }
-    ensures { (s.new ≡ joined n s.old i j logged) × Room n s.new }
+#[tactic(auto, unfolding(crate::specs::Model::joined))]
+fn merge(m: &mut Memory, i: usize, j: usize, logged: usize)
+    requires taker { i < m.old.n }
+    requires taken { j < m.old.n }
+    ensures { m.new ≡ record m.old { scratch = joined m.old.n m.old.scratch i j logged } }
 {
-    add_weight(s, n, i, j);
-    leave(s, n, i, j);
-    cells::put(s, n, cells::MERGES, logged, j);
+    add_weight(m, i, j);
+    leave(m, i, j);
+    m.up(Field::Merges, logged, j);
 }
 
 // ---- a bucket
 
 // The next row of the walk, which `next` stands behind, is merged into `i` and leaves the bucket.
-fn take_next(s: &mut [i64], n: usize, i: usize, next: usize, w: Walk) -> Walk
-    requires { Room n s.old × (i < n) × (next < 2 ^ 63) × (w.next < n) × Slight n w }
-    ensures { (comparing s.new result ≡ taken_next n i next (comparing s.old w)) × Room n s.new × Slight n result }
+#[tactic(auto, unfolding(crate::specs::Model::taken_next))]
+fn take_next(m: &mut Memory, i: usize, next: usize, w: Walk) -> Walk
+    requires taker { i < m.old.n }
+    requires small { next < 2 ^ 63 }
+    requires taken { w.next < m.old.n }
+    requires slight { Slight m.old.n w }
+    ensures taken { comparing m.new.scratch result ≡ taken_next m.old.n i next (comparing m.old.scratch w) }
+    ensures lists { SameLists m.old m.new }
+    ensures slight { Slight m.old.n result }
 {
-    merge(s, n, i, w.next, w.logged);
-    cells::note(s, n, cells::HNEXT, w.last, next);
+    merge(m, i, w.next, w.logged);
+    m.set(Field::HNext, w.last, next);
     let logged = cells::plus(w.logged, 1);
-    Walk {
-        last: w.last,
-        next: next,
-        logged: logged,
-    }
+    Walk { next, logged, ..w }
 }
 
-// The same if it has the list of `i`, which is of length `len` with `elen` elements; if not, it is passed by.
-fn compare_next(
-    lists: &[i64],
-    s: &mut [i64],
-    n: usize,
-    i: usize,
-    len: usize,
-    elen: usize,
-    flag: usize,
-    w: Walk,
-) -> Walk
-    requires { Room n s.old × Rows n lists.now × (i < n) × (w.next < n) × Slight n w }
-    ensures { (comparing s.new result ≡ compared lists.now n i len elen flag (comparing s.old w)) × Room n s.new × Slight n result }
+// The same if it has a list of this shape, which `i` has; if not, it is passed by.
+#[tactic(auto, unfolding(crate::specs::Model::compared, crate::specs::Model::passed_next))]
+fn compare_next(m: &mut Memory, i: usize, shape: Shape, w: Walk) -> Walk
+    requires taker { i < m.old.n }
+    requires next { w.next < m.old.n }
+    requires slight { Slight m.old.n w }
+    ensures compared { comparing m.new.scratch result ≡ compared m.old.lists m.old.n i shape.len shape.elen shape.flag (comparing m.old.scratch w) }
+    ensures lists { SameLists m.old m.new }
+    ensures slight { Slight m.old.n result }
 {
-    let next = cells::look(s, n, cells::HNEXT, w.next);
-    if alike(lists, s, n, w.next, len, elen, flag) {
-        take_next(s, n, i, next, w)
+    let next = m.get(Field::HNext, w.next);
+    if alike(m, w.next, shape) {
+        take_next(m, i, next, w)
     } else {
         Walk {
             last: w.next,
-            next: next,
-            logged: w.logged,
+            next,
+            ..w
         }
     }
 }
 
-// Each row behind `i` in its bucket, from `behind` on and at most `k`, that has the marked entries of `i` is merged into it. The result is how many merges are logged.
-// What each is compared with is read once: a merge into `i` leaves its list as it is.
-fn merge_into(
-    lists: &[i64],
-    s: &mut [i64],
-    n: usize,
-    i: usize,
-    behind: usize,
-    k: usize,
-    t: Tally,
-) -> usize
-    requires { Room n s.old × Rows n lists.now × (i < n) × (behind < 2 ^ 63) × Bounded t }
-    ensures { (merging s.new (record { flag = t.flag; logged = result }) ≡ merged_into lists.now n k i behind (merging s.old t)) × Room n s.new × (result < 2 ^ 63) }
+// Each row behind `i` in its bucket, from `behind` on and at most `k`, that has the marked entries of `i` is merged into it. The result is how many merges are
+// logged. What each is compared with is read once: a merge into `i` leaves its list as it is.
+#[tactic(auto, using(crate::proofs::Walks::walk_turns))]
+fn merge_into(m: &mut Memory, i: usize, behind: usize, k: usize, t: Tally) -> usize
+    requires taker { i < m.old.n }
+    requires small { behind < 2 ^ 63 }
+    ensures merged { merging m.new.scratch (record { flag = t.flag; logged = result })
+        ≡ merged_into m.old.lists m.old.n k i behind (merging m.old.scratch t) }
+    ensures lists { SameLists m.old m.new }
+    ensures small { result < 2 ^ 63 }
 {
-    let len = cells::get(s, n, cells::LEN, i);
-    let elen = cells::get(s, n, cells::ELEN, i);
+    let n = m.columns();
+    let shape = Shape {
+        len: m.get(Field::Len, i),
+        elen: m.get(Field::Elen, i),
+        flag: t.flag,
+    };
     let mut w = Walk {
         last: i,
         next: behind,
         logged: t.logged,
     };
-    let mut todo = k;
-    loop {
+    for _ in 0..k {
         if n <= w.next {
-            break w.logged;
+            break;
         }
-        if todo == 0 {
-            break w.logged;
-        }
-        todo -= 1;
-        w = compare_next(lists, s, n, i, len, elen, t.flag, w);
+        w = compare_next(m, i, shape, w);
     }
+    w.logged
 }
 
 // Row `i` takes those behind it in its bucket, from `behind` on, that have its list; the flag is used up.
-fn merge_at(
-    lists: &[i64],
-    s: &mut [i64],
-    n: usize,
-    i: usize,
-    behind: usize,
-    k: usize,
-    t: Tally,
-) -> Tally
-    requires { Room n s.old × Rows n lists.now × (i < n) × (behind < 2 ^ 63) × Bounded t }
-    ensures { (merging s.new result ≡ merged_at lists.now n k i behind (merging s.old t)) × Room n s.new × Bounded result }
+#[tactic(auto, unfolding(crate::specs::Model::merged_at))]
+fn merge_at(m: &mut Memory, i: usize, behind: usize, k: usize, t: Tally) -> Tally
+    requires taker { i < m.old.n }
+    requires small { behind < 2 ^ 63 }
+    ensures merged { merging m.new.scratch result ≡ merged_at m.old.lists m.old.n k i behind (merging m.old.scratch t) }
+    ensures lists { SameLists m.old m.new }
 {
-    mark_entries(lists, s, n, i, t.flag);
-    let logged = merge_into(lists, s, n, i, behind, k, t);
+    mark_entries(m, i, t.flag);
+    let logged = merge_into(m, i, behind, k, t);
     let flag = cells::plus(t.flag, 1);
-    Tally {
-        flag: flag,
-        logged: logged,
-    }
+    Tally { flag, logged }
 }
 
 // A bucket from its newest row `first` on, at most `k` rows of it, as long as there is anybody behind.
-fn merge_bucket(
-    lists: &[i64],
-    s: &mut [i64],
-    n: usize,
-    first: usize,
-    k: usize,
-    start: Tally,
-) -> Tally
-    requires { Room n s.old × Rows n lists.now × (first < 2 ^ 63) × Bounded start }
-    ensures { (merging s.new result ≡ bucket_run lists.now n k k first (merging s.old start)) × Room n s.new × Bounded result }
+#[tactic(auto, using(crate::proofs::Walks::run_turns))]
+fn merge_bucket(m: &mut Memory, first: usize, k: usize, start: Tally) -> Tally
+    requires small { first < 2 ^ 63 }
+    ensures merged { merging m.new.scratch result ≡ bucket_run m.old.lists m.old.n k k first (merging m.old.scratch start) }
+    ensures lists { SameLists m.old m.new }
 {
+    let n = m.columns();
     let mut i = first;
-    let mut todo = k;
     let mut t = start;
-    loop {
+    for _ in 0..k {
         if n <= i {
-            break t;
+            break;
         }
-        if todo == 0 {
-            break t;
-        }
-        todo -= 1;
-        let behind = cells::look(s, n, cells::HNEXT, i);
+        let behind = m.get(Field::HNext, i);
         if n <= behind {
-            break t;
+            break;
         }
-        t = merge_at(lists, s, n, i, behind, k, t);
-        i = cells::look(s, n, cells::HNEXT, i);
+        t = merge_at(m, i, behind, k, t);
+        i = m.get(Field::HNext, i);
     }
+    t
 }
 
 // ---- all buckets
 
 // The bucket of `key` is emptied, and its rows compared, if there is such a bucket.
-fn merge_key(lists: &[i64], s: &mut [i64], n: usize, key: usize, k: usize, t: Tally) -> Tally
-    requires { Room n s.old × Rows n lists.now × Bounded t }
-    ensures { (merging s.new result ≡ merged_key lists.now n k key (merging s.old t)) × Room n s.new × Bounded result }
+#[tactic(auto, unfolding(crate::specs::Model::merged_key))]
+fn merge_key(m: &mut Memory, key: usize, k: usize, t: Tally) -> Tally
+    ensures merged { merging m.new.scratch result ≡ merged_key m.old.lists m.old.n k key (merging m.old.scratch t) }
+    ensures lists { SameLists m.old m.new }
 {
+    let n = m.columns();
     if key < n {
-        let first = cells::look(s, n, cells::HHEAD, key);
-        cells::note(s, n, cells::HHEAD, key, n);
-        merge_bucket(lists, s, n, first, k, t)
+        let first = m.get(Field::HHead, key);
+        m.set(Field::HHead, key, n);
+        merge_bucket(m, first, k, t)
     } else {
         t
     }
 }
 
 // The bucket of the row in cell `q` of the lists, if that row is still there.
-fn merge_row(lists: &[i64], s: &mut [i64], n: usize, q: usize, k: usize, t: Tally) -> Tally
-    requires { Room n s.old × Rows n lists.now × (q < length lists.now) × Bounded t }
-    ensures { (merging s.new result ≡ merged_row lists.now n k q (merging s.old t)) × Room n s.new × Bounded result }
+#[tactic(auto, unfolding(crate::specs::Model::merged_row, crate::specs::Model::merged_of))]
+fn merge_row(m: &mut Memory, q: usize, k: usize, t: Tally) -> Tally
+    requires cell { q < length m.old.lists }
+    ensures merged { merging m.new.scratch result ≡ merged_row m.old.lists m.old.n k q (merging m.old.scratch t) }
+    ensures lists { SameLists m.old m.new }
 {
-    let i = cells::row(lists, n, q);
-    let weight = cells::look(s, n, cells::NV, i);
+    let i = m.row(q);
+    let weight = m.get(Field::Nv, i);
     if 0 < weight {
-        let key = cells::look(s, n, cells::HKEY, i);
-        merge_key(lists, s, n, key, k, t)
+        let key = m.get(Field::HKey, i);
+        merge_key(m, key, k, t)
     } else {
         t
     }
 }
 
 // Step 5, for the new element in the `k` cells of the lists from `from` on. The result is the next flag, and how many merges are logged.
-pub fn merge_all(
-    lists: &[i64],
-    s: &mut [i64],
-    n: usize,
-    from: usize,
-    k: usize,
-    start: Tally,
-) -> Tally
-    requires { Room n s.old × Rows n lists.now × Bounded start }
-    ensures { (merging s.new result ≡ merged_rows lists.now n from k (merging s.old start)) × Room n s.new × Bounded result }
+#[tactic(auto, unfolding(plain::specs::Turns::times, cells::specs::Rows::clipped, crate::specs::Model::merged_rows))]
+pub fn merge_all(m: &mut Memory, from: usize, k: usize, start: Tally) -> Tally
+    ensures merged { merging m.new.scratch result ≡ merged_rows m.old.lists m.old.n from k (merging m.old.scratch start) }
+    ensures lists { SameLists m.old m.new }
 {
-    let there = cells::clip(lists.len(), from, k);
     let mut t = start;
-    for q in from..from + there {
-        t = merge_row(lists, s, n, q, k, t);
+    for i in 0..m.clip(from, k) {
+        t = merge_row(m, from + i, k, t);
     }
     t
 }

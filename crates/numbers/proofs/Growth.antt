@@ -1,6 +1,6 @@
 -- The statistics that grow element by element, the dense block last, end as the definition's `six_of`.
 -- Assumes nothing.
-use Prim.Native.Nat.{ℕ, ◌+◌, ◌/◌, max}
+use Prim.Native.Nat.{ℕ, ◌+◌, max}
 use native.Mathlib.Nat.{add-zero, zero-add, add_assoc}
 use mathlib.Core.Path.{◌≡◌, refl, sym, ap, ◌∙◌}
 use mathlib.Core.List.{List, [], ◌∷◌, ◌++◌, map, foldl, foldl-append, foldl-map}
@@ -8,17 +8,7 @@ use Rattle.plain.specs.Lists.{total}
 use Rattle.definition.specs.State.{Front}
 use Rattle.definition.specs.Statistics.{Block, gain_q, gain_s, gain_ldl, blocks_of, sum_of, largest, six_of}
 use Rattle.definition.specs.Outcome as Outcomes
-use Rattle.numbers.specs.declared.Statistics.{Statistics}
-use Rattle.numbers.specs.Meaning.{statistics_meant}
 use Rattle.numbers.specs.Gains.{begun, gained, after_elements, counted}
-
--- ---- what `with_element` makes
-
-pub added : (s : Statistics) (f r q p d : ℕ) → q ≡ gain_q f r → p ≡ gain_s f r → d ≡ max s.d_max (f + r)
-    → statistics_meant (record { lnz = s.lnz + q; n_div = s.n_div + q; n_mult_subs_ldl = s.n_mult_subs_ldl + (p + q) / 2; n_mult_subs_lu = s.n_mult_subs_lu + p; n_dense = s.n_dense; d_max = d; n_cmp_a = s.n_cmp_a })
-    ≡ gained f r (statistics_meant s)
-unfolding statistics_meant gained gain_ldl
-added s f r q p d eq ep ed = rw (eq, ep, ed) refl
 
 -- ---- the elements in the order in which they are made
 

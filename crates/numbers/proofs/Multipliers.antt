@@ -1,4 +1,4 @@
--- The tests of `multiplier_wrong` and `dense_rule`, in their order, against the definition's `rule_of`. The remainder by a quarter is exact on every float.
+-- The tests by which a multiplier becomes a dense rule (`DenseRule::try_from`), in their order, against the definition's `rule_of`. The remainder by a quarter is exact on every float.
 -- Assumes nothing.
 use Prim.Native.Nat.{ℕ, zero, suc, ◌+◌, ◌-◌, ◌*◌, ◌/◌, ◌%◌, ◌^◌, ◌≤◌, ◌<◌}
 use native.Mathlib.Nat.{lt_of_le_of_lt, lt_of_lt_of_le, lt_irrefl, lt_of_not-le, mul-one, one-mul, zero-mul, add-zero, mul_assoc, mul_left_comm, mul_comm, mul-pos, mod-one, zero-mod, mod-le, mul-mod_left, mul-div_cancel, le_trans, mul-mul-mul_comm, eq_of_mul-eq-mul_right}
@@ -7,49 +7,40 @@ use native.Mathlib.Omega.{arith}
 use mathlib.Core.Path.{◌≡◌, refl, sym, ap, ◌∙◌, subst}
 use mathlib.Core.Bool.{Bool, true, false, not, ◌&&◌, ◌||◌, cond, beq, true≢false, false≢true}
 use mathlib.Core.Logic.{◌⊎◌, inl, inr}
-use mathlib.Core.Option.{none, some}
-use lib.Dec.{T, ltb, leb, eqb, lit<, lit≤, ltb→lt, leb→le, eqb→eq, eqb_refl}
+use mathlib.Core.Option.{Option, none, some}
+use lib.Dec.{T, ltb, leb, eqb, lit<, lit≤, ltb→lt, leb→le, eqb→eq}
 use lib.IntN.{ℤ, pos, negsuc}
 use lib.Pow.{pow-add, pow_pos, pow_mono, pow-lt, shl_lt, mod-pow-add}
-use lib.Ieee.{Float, nan, inf, fin, binary64, up, down, round, rem, mul, unlike, lt, eq, ne, fits, level}
+use lib.Ieee.{Float, nan, inf, fin, binary64, up, down, round, rem, mul, unlike, lt, eq, ne, fits}
 use lib.Ieee.Bits.{is_true}
 use lib.Ieee.Digits.{back}
 use lib.Ieee.Exact.{HasValue, round_exact}
 use lib.Ieee.Fits.{down_pos, up_pos, and_i, and_l, and_r, eq→eqb}
 use lib.Ieee.Back.{round_whole}
 use lib.Ieee.Nearest.{div_mono, div_same}
-use Rattle.std.specs.Float.{trunc, round_with, ratio_floor}
+use Rattle.std.specs.Float.{float_is_finite, trunc, round_with, ratio_floor}
 use borrow.Author.Tests.{le-ltb, ltb-true, ltb-false}
 use Rattle.plain.specs.Lists.{is_none}
-use Rattle.definition.specs.Threshold.{full_rows, multiplier, in_quarters, rule_of}
+use Rattle.definition.specs.Threshold.{Rule, full_rows, multiplier, in_quarters, rule_of}
 use Rattle.numbers.proofs.Exact.{is_zero, round_small, test_ext}
 use Rattle.numbers.proofs.Rules.{above_not, below_is, zero_in, plus_none, minus_none, no_size, zero_size}
 
--- `x != x`
-pub not_a_number : (x : Float) → ne x x ≡ true → true ≡ is_none (rule_of x)
-unfolding ne eq rule_of
-not_a_number nan e = refl
-not_a_number (inf s) e = refl
-not_a_number (fin s m k) e = absurd (true≢false (sym e ∙ ap not (self s (m * up k * down k))))
-  where
-    self : (s : Bool) (a : ℕ) → level s a s a ≡ true
-    self true a = ap (λ (b : Bool). b && (true || eqb a 0)) (is_true (eqb a a) (eqb_refl a))
-    self false a = ap (λ (b : Bool). b && (true || eqb a 0)) (is_true (eqb a a) (eqb_refl a))
+-- `!x.is_finite()`
+pub not_finite : (x : Float) → float_is_finite x ≡ false → rule_of x ≡ none
+unfolding float_is_finite rule_of
+not_finite nan e = refl
+not_finite (inf s) e = refl
+not_finite (fin s m k) e = absurd (true≢false e)
 
 -- `1000.0 < x`: 1000 is 125 · 2³
-pub above : (x : Float) → lt (fin false 125 (pos 3)) x ≡ true → true ≡ is_none (rule_of x)
+pub above : (x : Float) → lt (fin false 125 (pos 3)) x ≡ true → rule_of x ≡ none
 unfolding lt rule_of
 above nan e = refl
 above (inf s) e = refl
 above (fin true m k) e = absurd (false≢true e)
-above (fin false m k) e = sym (plus_none m k ∙ ap not (above_not (m * up k) (down k) (omega (arith, ltb-true (1000 * down k) (m * up k * 1) e))))
-
--- `x == -1.0 / 0.0`
-pub least : (x : Float) → eq x (inf true) ≡ true → true ≡ is_none (rule_of x)
-unfolding eq rule_of
-least nan e = refl
-least (inf s) e = refl
-least (fin s m k) e = absurd (false≢true e)
+above (fin false m k) e =
+    ap (λ (b : Bool). cond b (some (multiplier (fin false m k))) none)
+    (above_not (m * up k) (down k) (omega (arith, ltb-true (1000 * down k) (m * up k * 1) e)))
 
 -- `x < 0.0` is not so of a number without the sign
 plus_not : (m : ℕ) (k : ℤ) → lt (fin false m k) (fin false 0 (pos 0)) ≡ true → ⊥
@@ -59,14 +50,18 @@ plus_not m k e = never (m * up k * 1) (0 * 1 * down k) (zero-mul (down k)) e
     never : (a b : ℕ) → b ≡ 0 → ltb a b ≡ true → ⊥
     never a b z h = omega (arith, ltb-true a b h)
 
--- `x < 0.0`, where x is not the least
-pub below_zero : (x : Float) → eq x (inf true) ≡ false → lt x (fin false 0 (pos 0)) ≡ true → false ≡ is_none (rule_of x)
-unfolding eq lt
-below_zero nan f e = absurd (false≢true e)
-below_zero (inf true) f e = absurd (true≢false f)
-below_zero (inf false) f e = absurd (false≢true e)
-below_zero (fin true m k) f e = sym (minus_none m k)
-below_zero (fin false m k) f e = absurd (plus_not m k e)
+full_at : (b : Bool) (m : ℕ) (k : ℤ) → ltb 0 m ≡ b → lt (fin true m k) (fin false 0 (pos 0)) ≡ true → cond b (some full_rows) (cond (in_quarters (m * up k) (down k)) (some (multiplier (fin true m k))) none) ≡ some full_rows
+unfolding lt
+full_at true m k e h = refl
+full_at false m k e h = absurd (true≢false (sym h ∙ le-ltb 0 (m * up k * 1 + 0 * 1 * down k) (omega (arith, zero_size m k (no_size m e)))))
+
+-- `x < 0.0`: full rows only
+pub full : (x : Float) → float_is_finite x ≡ true → lt x (fin false 0 (pos 0)) ≡ true → rule_of x ≡ some full_rows
+unfolding float_is_finite rule_of
+full nan f e = absurd (false≢true f)
+full (inf s) f e = absurd (false≢true f)
+full (fin true m k) f e = full_at (ltb 0 m) m k refl e
+full (fin false m k) f e = absurd (plus_not m k e)
 
 -- ---- the remainder by a quarter is exact
 -- what is left of 4 m by 2 ^ (j + 2) is 4 times what is left of m by 2 ^ j
@@ -266,32 +261,32 @@ quarters s m k t h =
     ∙ none_over a c (down_pos k))
 
 -- `(x * 4.0).trunc() != x * 4.0`
-pub quarters_left : (x : Float) → T (fits binary64 x) → ne x x ≡ false → lt (fin false 125 (pos 3)) x ≡ false → eq x (inf true) ≡ false
+pub quarters_finite : (x : Float) → T (fits binary64 x) → float_is_finite x ≡ true → lt (fin false 125 (pos 3)) x ≡ false
     → lt x (fin false 0 (pos 0)) ≡ false
     → ne (trunc binary64 (mul binary64 x (fin false 1 (pos 2)))) (mul binary64 x (fin false 1 (pos 2))) ≡ is_none (rule_of x)
-quarters_left nan t a b c d = absurd (nan_no a)
-quarters_left (inf s) t a b c d = absurd (inf_no s b c)
-quarters_left (fin true m k) t a b c d =
+unfolding float_is_finite
+quarters_finite nan t f b d = absurd (false≢true f)
+quarters_finite (inf s) t f b d = absurd (false≢true f)
+quarters_finite (fin true m k) t f b d =
     let z = minus_zero_lem m k d in
     quarters true m k t (omega arith)
     ∙ ap not (is_true (eqb (m * up k * 4 % down k) 0) (eq→eqb (ap (λ (y : ℕ). y * 4 % down k) z ∙ zero-mod (down k)))) ∙ sym (minus_none m k)
-quarters_left (fin false m k) t a b c d =
+quarters_finite (fin false m k) t f b d =
     quarters false m k t (small m k b) ∙ ap not (sym (below_is (m * up k) (down k) (down_pos k) (small m k b))) ∙ sym (plus_none m k)
 
--- ---- the rule that accepted settings read as
+-- the same, of what is a number, not above 1,000 and not the least
+pub quarters_left : (x : Float) → T (fits binary64 x) → ne x x ≡ false → lt (fin false 125 (pos 3)) x ≡ false → eq x (inf true) ≡ false
+    → lt x (fin false 0 (pos 0)) ≡ false
+    → ne (trunc binary64 (mul binary64 x (fin false 1 (pos 2)))) (mul binary64 x (fin false 1 (pos 2))) ≡ is_none (rule_of x)
+unfolding float_is_finite
+quarters_left nan t a b c d = absurd (nan_no a)
+quarters_left (inf s) t a b c d = absurd (inf_no s b c)
+quarters_left (fin s m k) t a b c d = quarters_finite (fin s m k) t refl b d
 
-full_at : (b : Bool) (m : ℕ) (k : ℤ) → ltb 0 m ≡ b → lt (fin true m k) (fin false 0 (pos 0)) ≡ true → cond b (some full_rows) (cond (in_quarters (m * up k) (down k)) (some (multiplier (fin true m k))) none) ≡ some full_rows
-unfolding lt
-full_at true m k e h = refl
-full_at false m k e h = absurd (true≢false (sym h ∙ le-ltb 0 (m * up k * 1 + 0 * 1 * down k) (omega (arith, zero_size m k (no_size m e)))))
-
--- below zero: full rows only
-pub full : (x : Float) → is_none (rule_of x) ≡ false → lt x (fin false 0 (pos 0)) ≡ true → rule_of x ≡ some full_rows
-unfolding rule_of
-full nan r e = absurd (true≢false r)
-full (inf s) r e = absurd (true≢false r)
-full (fin true m k) r e = full_at (ltb 0 m) m k refl e
-full (fin false m k) r e = absurd (plus_not m k e)
+-- more or less than a whole number of quarters
+pub no_rule : (o : Option Rule) → is_none o ≡ true → o ≡ none
+no_rule none e = refl
+no_rule (some r) e = absurd (false≢true e)
 
 -- else the multiplier
 pub times : (x : Float) → is_none (rule_of x) ≡ false → lt x (fin false 0 (pos 0)) ≡ false → rule_of x ≡ some (multiplier x)

@@ -1,5 +1,4 @@
 -- The modules of `opening` that belong to no one function.
-pub mod Steps
 pub mod Rows
 pub mod Opening
 pub mod Shown

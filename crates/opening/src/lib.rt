@@ -1,208 +1,199 @@
-// From the built lists to the first pivot, and from a pivot's choice to its gathered element. Every row begins as a variable of weight 1 in the list of its degree;
-// a row without neighbours is an element at once, and a dense row leaves. Then, for each pivot, its new element is gathered, whose rows leave their degree lists, and
-// its elements are taken up by it. A contract is the function's own model, and the laws of `proofs/` say what it does.
+// From the built lists to the first pivot, and from a pivot's choice to its gathered element. Every row begins as a variable of weight 1 in the list of its
+// degree; a row without neighbours is an element at once, and a dense row leaves. Then, for each pivot, its new element is gathered, whose rows leave their
+// degree lists, and its elements are taken up by it. A contract is the function's own model, and the laws of `proofs/` say what it does.
 #![tactic(auto)]
 
 ghost use Rattle.std.specs.Prelude.{◌≡◌, ◌<◌, ◌^◌};
-ghost use Rattle.cells.specs.View.{Room, up};
-ghost use Rattle.cells.specs.Rows.{Rows};
+ghost use Rattle.cells.specs.View.{up};
+ghost use Rattle.cells.specs.Space.{SameLists, SameSize};
 ghost use Rattle.cells.specs.Layout.{WANT};
 ghost use Rattle.chain.specs.Model.{removed};
 ghost use Rattle.packed.specs.Gather.{outside, Brief};
 ghost use Rattle.opening.specs.Start.{weighed, marked, begun, begun_all, rooted, left_out, setting, Slight, set_one, set_all, opened};
 ghost use Rattle.opening.specs.Begin.{gathered_alone, gathered, pivoted};
 
+use cells::{Field, Memory};
+
 // ---- the start
 
 // Row `i` stands for itself alone, and has no elements.
-fn weigh(s: &mut [i64], n: usize, i: usize)
-    requires { Room n s.old }
-    ensures { (s.new ≡ weighed n i s.old) × Room n s.new }
+#[tactic(auto, unfolding(crate::specs::Start::weighed))]
+fn weigh(m: &mut Memory, i: usize)
+    ensures { m.new ≡ record m.old { scratch = weighed m.old.n i m.old.scratch } }
 {
-    cells::put(s, n, cells::NV, i, 1);
-    cells::up(s, n, cells::WANT, i, 1);
-    cells::up(s, n, cells::ELEN, i, 0);
+    m.up(Field::Nv, i, 1);
+    m.up(Field::Want, i, 1);
+    m.up(Field::Elen, i, 0);
 }
 
 // The degree of row `i` is its length, its mark is 1, and no row has the key `i`.
-fn mark(s: &mut [i64], n: usize, i: usize)
-    requires { Room n s.old }
-    ensures { (s.new ≡ marked n i s.old) × Room n s.new }
+#[tactic(auto, unfolding(crate::specs::Start::marked))]
+fn mark(m: &mut Memory, i: usize)
+    ensures { m.new ≡ record m.old { scratch = marked m.old.n i m.old.scratch } }
 {
-    let d = cells::rd(s, n, cells::LEN, i);
-    cells::up(s, n, cells::DEGREE, i, d);
-    cells::up(s, n, cells::W, i, 1);
-    cells::put(s, n, cells::HHEAD, i, n);
+    let d = m.rd(Field::Len, i);
+    m.up(Field::Degree, i, d);
+    m.up(Field::W, i, 1);
+    m.up(Field::HHead, i, m.columns());
 }
 
 // Row `i` begins.
-fn start_row(s: &mut [i64], n: usize, i: usize)
-    requires { Room n s.old }
-    ensures { (s.new ≡ begun n i s.old) × Room n s.new }
+#[tactic(auto, unfolding(crate::specs::Start::begun))]
+fn start_row(m: &mut Memory, i: usize)
+    ensures { m.new ≡ record m.old { scratch = begun m.old.n i m.old.scratch } }
 {
-    weigh(s, n, i);
-    mark(s, n, i);
+    weigh(m, i);
+    mark(m, i);
 }
 
 // Every row begins.
-fn start_rows(s: &mut [i64], n: usize)
-    requires { Room n s.old }
-    ensures { (s.new ≡ begun_all n s.old) × Room n s.new }
+#[tactic(auto, unfolding(plain::specs::Turns::times, crate::specs::Start::begun_all))]
+fn start_rows(m: &mut Memory)
+    ensures { m.new ≡ record m.old { scratch = begun_all m.old.n m.old.scratch } }
 {
-    for i in 0..n {
-        start_row(s, n, i);
+    for i in 0..m.columns() {
+        start_row(m, i);
     }
 }
 
 // Row `i`, which has no neighbours, is an element of size 1, and a root.
-fn set_root(s: &mut [i64], n: usize, i: usize)
-    requires { Room n s.old }
-    ensures { (s.new ≡ rooted n i s.old) × Room n s.new }
+#[tactic(auto, unfolding(crate::specs::Start::rooted))]
+fn set_root(m: &mut Memory, i: usize)
+    ensures { m.new ≡ record m.old { scratch = rooted m.old.n i m.old.scratch } }
 {
-    cells::up(s, n, cells::WANT, i, 0);
-    cells::up(s, n, cells::ELEN, i, 1);
-    cells::up(s, n, cells::W, i, 0);
-    cells::put_parent(s, n, i, n);
+    m.up(Field::Want, i, 0);
+    m.up(Field::Elen, i, 1);
+    m.up(Field::W, i, 0);
+    m.put_parent(i, None);
 }
 
 // Row `i`, which is dense, leaves with no parent.
-fn set_dense(s: &mut [i64], n: usize, i: usize)
-    requires { Room n s.old }
-    ensures { (s.new ≡ left_out n i s.old) × Room n s.new }
+#[tactic(auto, unfolding(crate::specs::Start::left_out))]
+fn set_dense(m: &mut Memory, i: usize)
+    ensures { m.new ≡ record m.old { scratch = left_out m.old.n i m.old.scratch } }
 {
-    cells::put(s, n, cells::NV, i, 0);
-    cells::up(s, n, cells::WANT, i, 0);
-    cells::up(s, n, cells::LEN, i, 0);
-    cells::put_parent(s, n, i, n);
+    m.up(Field::Nv, i, 0);
+    m.up(Field::Want, i, 0);
+    m.up(Field::Len, i, 0);
+    m.put_parent(i, None);
 }
 
 // The rows that are no variables from the start: those without neighbours, and the dense ones.
-#[derive(Clone, Copy)]
+// That both are small is a clause (`Slight`) and no ghost field: the model in specs/Start.antt makes an `Aside` of any two counts.
+#[derive(Clone, Copy, Default)]
 pub struct Aside {
     pub roots: usize,
     pub dense: usize,
 }
 
 // Row `i` is set aside, if it is to be.
-fn set_one(s: &mut [i64], n: usize, limit: usize, i: usize, a: Aside) -> Aside
-    requires { Room n s.old × Slight a }
-    ensures { (setting s.new result ≡ set_one n limit i (setting s.old a)) × Room n s.new × Slight result }
+#[tactic(auto, unfolding(crate::specs::Start::set_one, crate::specs::Start::set_dense, crate::specs::Start::set_root))]
+fn set_one(m: &mut Memory, limit: usize, i: usize, a: Aside) -> Aside
+    requires { Slight a }
+    ensures set { setting m.new.scratch result ≡ set_one m.old.n limit i (setting m.old.scratch a) }
+    ensures lists { SameLists m.old m.new }
+    ensures slight { Slight result }
 {
-    let d = cells::rd(s, n, cells::LEN, i);
-    if 0 < d {
-        if limit < d {
-            set_dense(s, n, i);
-            let k = cells::plus(a.dense, 1);
+    match m.rd(Field::Len, i) {
+        0 => {
+            set_root(m, i);
             Aside {
-                roots: a.roots,
-                dense: k,
+                roots: cells::plus(a.roots, 1),
+                ..a
             }
-        } else {
-            a
         }
-    } else {
-        set_root(s, n, i);
-        let k = cells::plus(a.roots, 1);
-        Aside {
-            roots: k,
-            dense: a.dense,
+        d if limit < d => {
+            set_dense(m, i);
+            Aside {
+                dense: cells::plus(a.dense, 1),
+                ..a
+            }
         }
+        _ => a,
     }
 }
 
 // Every row that is to be is set aside.
-fn set_aside(s: &mut [i64], n: usize, limit: usize) -> Aside
-    requires { Room n s.old }
-    ensures { (setting s.new result ≡ set_all n limit s.old) × Room n s.new × Slight result }
+#[tactic(auto, unfolding(plain::specs::Turns::times, crate::specs::Start::set_all))]
+fn set_aside(m: &mut Memory, limit: usize) -> Aside
+    ensures set { setting m.new.scratch result ≡ set_all m.old.n limit m.old.scratch }
+    ensures lists { SameLists m.old m.new }
+    ensures slight { Slight result }
 {
-    let mut a = Aside { roots: 0, dense: 0 };
-    for i in 0..n {
-        a = set_one(s, n, limit, i, a);
+    let mut a = Aside::default();
+    for i in 0..m.columns() {
+        a = set_one(m, limit, i, a);
     }
     a
 }
 
 // The start: what the elimination finds, where LEN and PE are those of the built lists.
-pub fn start(s: &mut [i64], n: usize, limit: usize) -> Aside
-    requires { Room n s.old }
-    ensures { (setting s.new result ≡ opened n limit s.old) × Room n s.new × Slight result }
+#[tactic(auto, unfolding(crate::specs::Start::opened))]
+pub fn start(m: &mut Memory, limit: usize) -> Aside
+    ensures opened { setting m.new.scratch result ≡ opened m.old.n limit m.old.scratch }
+    ensures lists { SameLists m.old m.new }
+    ensures slight { Slight result }
 {
-    start_rows(s, n);
-    chain::enlist_all(s, n, limit);
-    set_aside(s, n, limit)
+    start_rows(m);
+    chain::enlist_all(m, limit);
+    set_aside(m, limit)
 }
 
 // ---- a pivot's beginning
 
 // The new element of a pivot without elements, in its own place, which is stored anew: whoever asks for a parent there finds none.
-fn gather_alone(
-    lists: &mut [i64],
-    s: &mut [i64],
-    n: usize,
-    me: usize,
-    base: usize,
-    lim: usize,
-    made: usize,
-) -> packed::Made
-    requires { Room n s.old × Rows n lists.old × (me < n) × (lim < 2 ^ 63) × (made < 2 ^ 63) }
-    ensures { (outside lists.new s.new result ≡ gathered_alone n me base lim made lists.old s.old) × Room n s.new × Rows n lists.new × Brief result }
+#[tactic(auto, unfolding(crate::specs::Begin::gathered_alone))]
+fn gather_alone(m: &mut Memory, me: usize, base: usize, lim: usize, made: usize) -> packed::Made
+    requires { (me < m.old.n) × (lim < 2 ^ 63) × (made < 2 ^ 63) }
+    ensures gathered { outside m.new.lists m.new.scratch result ≡ gathered_alone m.old.n me base lim made m.old.lists m.old.scratch }
+    ensures size { SameSize m.old m.new }
+    ensures brief { Brief result }
 {
-    let p = cells::get(s, n, cells::PE, me);
-    let c = packed::gather_in_place(lists, s, n, me);
-    cells::set(s, n, cells::PE, me, p);
+    let start = m.get(Field::Pe, me);
+    let count = packed::gather_in_place(m, me);
+    m.set(Field::Pe, me, start);
     packed::Made {
-        start: p,
-        count: c,
+        start,
+        count,
         free: lim,
-        base: base,
-        made: made,
+        base,
+        made,
         collected: 0,
     }
 }
 
 // The new element of a pivot: one with elements takes them up, and gets a place behind all others.
-fn gather(
-    lists: &mut [i64],
-    s: &mut [i64],
-    n: usize,
-    me: usize,
-    base: usize,
-    lim: usize,
-    made: usize,
-) -> packed::Made
-    requires { Room n s.old × Rows n lists.old × (me < n) × (lim < 2 ^ 63) × (made < 2 ^ 63) }
-    ensures { (outside lists.new s.new result ≡ gathered n me base lim made lists.old s.old) × Room n s.new × Rows n lists.new × Brief result }
+#[tactic(auto, unfolding(crate::specs::Begin::gathered))]
+fn gather(m: &mut Memory, me: usize, base: usize, lim: usize, made: usize) -> packed::Made
+    requires { (me < m.old.n) × (lim < 2 ^ 63) × (made < 2 ^ 63) }
+    ensures gathered { outside m.new.lists m.new.scratch result ≡ gathered m.old.n me base lim made m.old.lists m.old.scratch }
+    ensures size { SameSize m.old m.new }
+    ensures brief { Brief result }
 {
-    let k = cells::get(s, n, cells::ELEN, me);
-    if 0 < k {
-        packed::gather_outside(lists, s, n, me, base, lim, made)
+    if 0 < m.get(Field::Elen, me) {
+        packed::gather_outside(m, me, base, lim, made)
     } else {
-        gather_alone(lists, s, n, me, base, lim, made)
+        gather_alone(m, me, base, lim, made)
     }
 }
 
 // The pivot `me` leaves its degree list and is wanted no more.
-fn leave(s: &mut [i64], n: usize, me: usize)
-    requires { Room n s.old × (me < n) }
-    ensures { (s.new ≡ up n WANT (removed n s.old me) me 0) × Room n s.new }
+fn leave(m: &mut Memory, me: usize)
+    requires { me < m.old.n }
+    ensures { m.new ≡ record m.old { scratch = up m.old.n WANT (removed m.old.n m.old.scratch me) me 0 } }
 {
-    chain::take_out(s, n, me);
-    cells::set(s, n, cells::WANT, me, 0);
+    chain::take_out(m, me);
+    m.set(Field::Want, me, 0);
 }
 
 // The pivot `me` leaves its degree list and is wanted no more, and its new element is gathered, whose rows leave their degree lists.
-pub fn begin_pivot(
-    lists: &mut [i64],
-    s: &mut [i64],
-    n: usize,
-    me: usize,
-    base: usize,
-    lim: usize,
-    made: usize,
-) -> packed::Made
-    requires { Room n s.old × Rows n lists.old × (me < n) × (lim < 2 ^ 63) × (made < 2 ^ 63) }
-    ensures { (outside lists.new s.new result ≡ pivoted n me base lim made lists.old s.old) × Room n s.new × Rows n lists.new × Brief result }
+#[tactic(auto, unfolding(crate::specs::Begin::pivoted))]
+pub fn begin_pivot(m: &mut Memory, me: usize, base: usize, lim: usize, made: usize) -> packed::Made
+    requires { (me < m.old.n) × (lim < 2 ^ 63) × (made < 2 ^ 63) }
+    ensures gathered { outside m.new.lists m.new.scratch result ≡ pivoted m.old.n me base lim made m.old.lists m.old.scratch }
+    ensures size { SameSize m.old m.new }
+    ensures brief { Brief result }
 {
-    leave(s, n, me);
-    gather(lists, s, n, me, base, lim, made)
+    leave(m, me);
+    gather(m, me, base, lim, made)
 }

@@ -3,12 +3,19 @@
 // permutation, empty on a refusal; the seven statistics.
 #![tactic(auto)]
 
-ghost use Rattle.std.specs.Prelude.{◌≡◌, ◌+◌, ◌≤◌, length};
+ghost use Rattle.std.specs.Prelude.{◌≤◌};
+ghost use Rattle.order_text.specs.declared.TheConstants.{MOST_COLUMNS, MOST_ROWS};
 
-use numbers::{Outcome, Settings, Statistics};
-use std::io;
+use numbers::Settings;
+use std::error::Error;
 use std::io::Write;
-use text::{Fault, Reading};
+use std::{fmt, io};
+use text::{Fault, Spaced};
+
+const SETTINGS: Settings = Settings {
+    multiplier: 10.0,
+    aggressive: true,
+};
 
 const MOST_COLUMNS: usize = 128;
 
@@ -21,210 +28,147 @@ const MOST_SCRATCH: usize = 3088;
 // n, the pointers and the rows of the largest text.
 const MOST_NUMBERS: usize = 1154;
 
-fn print_statistics<W: Write>(out: &mut W, x: Statistics) -> io::Result<()> {
-    text::print_unsigned(out, true, x.lnz)?;
-    text::print_unsigned(out, false, x.n_div)?;
-    text::print_unsigned(out, false, x.n_mult_subs_ldl)?;
-    text::print_unsigned(out, false, x.n_mult_subs_lu)?;
-    text::print_unsigned(out, false, x.n_dense)?;
-    text::print_unsigned(out, false, x.d_max)?;
-    text::print_unsigned(out, false, x.n_cmp_a)?;
-    text::print_line(out, b"")
+// A text that fills so many bytes is too long.
+const TEXT_ROOM: usize = 65536;
+
+// Why a text is no pattern that the program takes.
+#[derive(Clone, Copy, PartialEq, Eq, Debug)]
+enum Refusal {
+    LongText,
+    Text(Fault),
+    NoCount,
+    NegativeCount,
+    ManyColumns,
+    FewPointers,
+    ManyRows,
+    NegativeEntries,
+    ManyEntries,
 }
 
-fn print_answer<W: Write>(out: &mut W, number: i32) -> io::Result<()> {
-    text::print_numbers(out, &[number])?;
-    text::print_line(out, b"")
-}
-
-fn print_outcome<W: Write>(out: &mut W, o: Outcome, permutation: &[i32]) -> io::Result<()> {
-    let a = o.answer;
-    let number = numbers::answer_number(a);
-    print_answer(out, number)?;
-    if number < 2 {
-        text::print_numbers(out, permutation)?;
+impl fmt::Display for Refusal {
+    fn fmt<W: fmt::Write>(&self, f: &mut fmt::Formatter<W>) -> fmt::Result {
+        match self {
+            Refusal::LongText => write!(f, "the text is too long: at most 65535 bytes"),
+            Refusal::Text(fault) => write!(f, "{fault}"),
+            Refusal::NoCount => write!(f, "too few numbers: n is missing"),
+            Refusal::NegativeCount => write!(f, "n is below 0"),
+            Refusal::ManyColumns => write!(f, "n is above 128"),
+            Refusal::FewPointers => write!(f, "too few numbers: the pointers are n + 1"),
+            Refusal::ManyRows => write!(f, "too many numbers: the rows are at most 1024"),
+            Refusal::NegativeEntries => write!(f, "the last pointer is below 0"),
+            Refusal::ManyEntries => write!(f, "the last pointer is above 1024"),
+        }
     }
-    text::print_line(out, b"")?;
-    let x = o.statistics;
-    print_statistics(out, x)
 }
 
-// ---- the ordering
+impl Error for Refusal {}
 
-fn order_lent<W: Write>(
-    out: &mut W,
+impl From<Fault> for Refusal {
+    fn from(fault: Fault) -> Refusal {
+        Refusal::Text(fault)
+    }
+}
+
+// A pattern that fits the program's arrays, with n and the last pointer as counts.
+#[derive(Clone, Copy)]
+struct Input<'a> {
     n: i32,
-    pointers: &[i32],
-    rows: &[i32],
-    permutation: &mut [i32],
-    inverse: &mut [i32],
-    lists: &mut [i64],
-    scratch: &mut [i64],
-) -> io::Result<()> {
-    let settings = Settings {
-        multiplier: 10.0,
-        aggressive: true,
-    };
-    let o = ordering::order(
-        n,
-        pointers,
-        rows,
-        settings,
-        permutation,
-        inverse,
-        lists,
-        scratch,
-    );
-    print_outcome(out, o, permutation)
-}
-
-fn output_cells() -> [i32; MOST_COLUMNS]
-    ensures { 128 ≡ length result }
-{
-    [0; MOST_COLUMNS]
-}
-
-fn list_cells() -> [i64; MOST_LISTS]
-    ensures { 2176 ≡ length result }
-{
-    [0; MOST_LISTS]
-}
-
-fn scratch_cells() -> [i64; MOST_SCRATCH]
-    ensures { 3088 ≡ length result }
-{
-    [0; MOST_SCRATCH]
-}
-
-fn order_in<W: Write>(
-    out: &mut W,
-    n: i32,
-    pointers: &[i32],
-    rows: &[i32],
+    pointers: &'a [i32],
+    rows: &'a [i32],
     columns: usize,
-    lists: usize,
-    scratch: usize,
-) -> io::Result<()>
-    requires { (columns ≤ 128) × (lists ≤ 2176) × (scratch ≤ 3088) }
-{
-    let mut permutation = output_cells();
-    let mut inverse = output_cells();
-    let mut l = list_cells();
-    let mut s = scratch_cells();
-    order_lent(
-        out,
-        n,
-        pointers,
-        rows,
-        &mut permutation[..columns],
-        &mut inverse[..columns],
-        &mut l[..lists],
-        &mut s[..scratch],
-    )
+    entries: usize,
+    ghost columns_few: { columns ≤ MOST_COLUMNS },
+    ghost entries_few: { entries ≤ MOST_ROWS },
 }
 
-// The least rooms of a pattern that the program takes.
-fn least_lists(columns: usize, nnz: usize) -> usize
-    requires { (columns ≤ 128) × (nnz ≤ 1024) }
-    ensures { result ≤ 2176 }
-{
-    ordering::lists_room(columns as i64, nnz as i64)
-}
+impl<'a> Input<'a> {
+    // Of the numbers n, the pointers, the rows.
+    fn of_numbers(xs: &'a [i32]) -> Result<Input<'a>, Refusal> {
+        let Some((&n, rest)) = xs.split_first() else {
+            return Err(Refusal::NoCount);
+        };
+        let Ok(columns) = usize::try_from(n) else {
+            return Err(Refusal::NegativeCount);
+        };
+        if columns > MOST_COLUMNS {
+            return Err(Refusal::ManyColumns);
+        }
+        if rest.len() < columns + 1 {
+            return Err(Refusal::FewPointers);
+        }
+        let (pointers, rows) = rest.split_at(columns + 1);
+        if rows.len() > MOST_ROWS {
+            return Err(Refusal::ManyRows);
+        }
+        let Ok(entries) = usize::try_from(pointers[columns]) else {
+            return Err(Refusal::NegativeEntries);
+        };
+        if entries > MOST_ROWS {
+            return Err(Refusal::ManyEntries);
+        }
+        Ok(Input {
+            n,
+            pointers,
+            rows,
+            columns,
+            entries,
+        })
+    }
 
-fn least_scratch(columns: usize, nnz: usize) -> usize
-    requires { (columns ≤ 128) × (nnz ≤ 1024) }
-    ensures { result ≤ 3088 }
-{
-    ordering::scratch_room(columns as i64, nnz as i64)
-}
+    // Of a text whose numbers go into `numbers`.
+    fn of_text(text: &[u8], numbers: &'a mut [i32]) -> Result<Input<'a>, Refusal> {
+        if text.len() == TEXT_ROOM {
+            return Err(Refusal::LongText);
+        }
+        let count = text::read_numbers(text, numbers)?;
+        Input::of_numbers(&numbers[..count])
+    }
 
-// A pattern of `columns` columns: the numbers behind its pointers are the rows.
-fn order_columns<W: Write>(out: &mut W, xs: &[i32], columns: usize) -> io::Result<()>
-    requires { (columns ≤ 128) × (columns + 2 ≤ length xs.now) }
-{
-    let last = columns + 1;
-    let first = columns + 2;
-    let nnz = cells::row_at(xs, last);
-    if cells::negative(xs, last) {
-        return text::print_line(out, b"the last pointer is below 0");
+    #[tactic(auto, using(crate::proofs::Rooms::lists_few))]
+    fn lists_room(&self) -> usize
+        ensures { result ≤ MOST_LISTS }
+    {
+        ordering::lists_room(self.columns as i64, self.entries as i64)
     }
-    if MOST_ROWS < nnz {
-        return text::print_line(out, b"the last pointer is above 1024");
-    }
-    let lists = least_lists(columns, nnz);
-    let scratch = least_scratch(columns, nnz);
-    order_in(
-        out,
-        xs[0],
-        &xs[1..first],
-        &xs[first..],
-        columns,
-        lists,
-        scratch,
-    )
-}
 
-// The numbers n, the pointers, the rows.
-fn order_numbers<W: Write>(out: &mut W, xs: &[i32]) -> io::Result<()> {
-    if xs.len() == 0 {
-        return text::print_line(out, b"too few numbers: n is missing");
-    }
-    if cells::negative(xs, 0) {
-        return text::print_line(out, b"n is below 0");
-    }
-    let columns = cells::row_at(xs, 0);
-    if MOST_COLUMNS < columns {
-        return text::print_line(out, b"n is above 128");
-    }
-    if xs.len() < columns + 2 {
-        return text::print_line(out, b"too few numbers: the pointers are n + 1");
-    }
-    if MOST_ROWS < xs.len() - columns - 2 {
-        return text::print_line(out, b"too many numbers: the rows are at most 1024");
-    }
-    order_columns(out, xs, columns)
-}
-
-fn print_fault<W: Write>(out: &mut W, f: Fault) -> io::Result<()> {
-    match f {
-        Fault::NotNumber => text::print_line(out, b"not a decimal number"),
-        Fault::TooLarge => text::print_line(out, b"a number is not below 2147483648"),
-        Fault::TooMany => text::print_line(out, b"too many numbers: the rows are at most 1024"),
+    #[tactic(auto, using(crate::proofs::Rooms::scratch_few))]
+    fn scratch_room(&self) -> usize
+        ensures { result ≤ MOST_SCRATCH }
+    {
+        ordering::scratch_room(self.columns as i64, self.entries as i64)
     }
 }
 
-fn number_cells() -> [i32; MOST_NUMBERS]
-    ensures { 1154 ≡ length result }
-{
-    [0; MOST_NUMBERS]
-}
-
-fn order_read<W: Write>(out: &mut W, bytes: &[u8], xs: &mut [i32]) -> io::Result<()> {
-    let r = text::read_numbers(bytes, xs);
-    match r {
-        Reading::Numbers(count) => order_numbers(out, &xs[..count]),
-        Reading::Failed(f) => print_fault(out, f),
+fn order_input<W: Write>(out: &mut W, input: &Input<'_>) -> io::Result<()> {
+    let mut permutation = [0; MOST_COLUMNS];
+    let mut inverse = [0; MOST_COLUMNS];
+    let mut lists = [0; MOST_LISTS];
+    let mut scratch = [0; MOST_SCRATCH];
+    let outcome = ordering::order(
+        input.n,
+        input.pointers,
+        input.rows,
+        SETTINGS,
+        &mut permutation[..input.columns],
+        &mut inverse[..input.columns],
+        &mut lists[..input.lists_room()],
+        &mut scratch[..input.scratch_room()],
+    );
+    writeln!(out, "{}", i32::from(outcome.answer))?;
+    if outcome.answer.is_accepted() {
+        write!(out, "{}", Spaced(&permutation[..input.columns]))?;
     }
-}
-
-fn order_bytes<W: Write>(out: &mut W, bytes: &[u8]) -> io::Result<()> {
-    let mut xs = number_cells();
-    order_read(out, bytes, &mut xs)
-}
-
-fn text_bytes() -> [u8; 65536]
-    ensures { 65536 ≡ length result }
-{
-    [0; 65536]
+    writeln!(out)?;
+    writeln!(out, "{}", outcome.statistics)
 }
 
 fn main(rt: HostRuntime) -> io::Result<()> {
-    let mut input = rt.stdin();
     let mut out = rt.stdout();
-    let mut bytes = text_bytes();
-    let size = text::read_full(&mut input, &mut bytes)?;
-    if size == 65536 {
-        return text::print_line(&mut out, b"the text is too long: at most 65535 bytes");
+    let mut bytes = [0; TEXT_ROOM];
+    let size = text::read_full(&mut rt.stdin(), &mut bytes)?;
+    let mut numbers = [0; MOST_NUMBERS];
+    match Input::of_text(&bytes[..size], &mut numbers) {
+        Ok(input) => order_input(&mut out, &input),
+        Err(refusal) => writeln!(out, "{refusal}"),
     }
-    order_bytes(&mut out, &bytes[..size])
 }

@@ -1,6 +1,6 @@
 -- What an accepted problem gives the ordering of its pattern, with no columns or with some, and what is left once both workspaces are cleared.
 -- Assumes nothing.
-use Prim.Native.Nat.{ℕ, ◌+◌, ◌*◌, ◌-◌, ◌<◌, ◌≤◌, ◌^◌, min}
+use Prim.Native.Nat.{ℕ, ◌+◌, ◌*◌, ◌<◌, ◌≤◌, ◌^◌, min}
 use native.Mathlib.Omega.{arith}
 use mathlib.Core.Path.{◌≡◌, refl, sym, ap, ◌∙◌}
 use mathlib.Core.Bool.{Bool, true, false}
@@ -31,8 +31,8 @@ use Rattle.ordering.proofs.Leaving.{accepted_left, jumbled_is}
 use Rattle.ordering.proofs.Theorem.{course_outputs, course_statistics, no_inverse, no_permutation, no_seven}
 
 -- the part of the lists that is worked in
-pub part_length : (l : List ℤ) (k : ℕ) → k ≡ min (length l) (2 ^ 61) → length (take (k - 0) l) ≡ min (length l) (2 ^ 61)
-part_length l k h = length-take (k - 0) l ∙ omega (arith, h)
+pub part_length : (l : List ℤ) (k : ℕ) → k ≡ min (length l) (2 ^ 61) → length (take k l) ≡ min (length l) (2 ^ 61)
+part_length l k h = length-take k l ∙ omega (arith, h)
 
 both_empty : (p : List ℤ) (xs : List ℕ) → length p ≡ 0 → length xs ≡ 0 → p ≡ map pos xs
 both_empty [] [] h k = refl

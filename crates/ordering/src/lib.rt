@@ -1,54 +1,28 @@
 // The ordering of a pattern: its promise is that of the definition, for all inputs.
 #![tactic(auto)]
 
-ghost use Rattle.std.specs.Prelude.{◌≡◌, true, false, ◌+◌, ◌*◌, ◌<◌, ◌≤◌, ◌^◌, min, eqb, length};
+ghost use Rattle.std.specs.Prelude.{◌≡◌, true, false, ◌≤◌};
 ghost use Rattle.plain.specs.Lists.{is_none};
-ghost use Rattle.definition.specs.Limits.{base_limits, lists_room, scratch_room, room_within};
+ghost use Rattle.definition.specs.Limits.{base_limits};
 ghost use Rattle.definition.specs.Threshold.{rule_of, threshold};
-ghost use Rattle.definition.specs.Answers.{accepts, answer_of, number_of, or_full_rows};
+ghost use Rattle.definition.specs.Answers.{accepts, answer_of, or_full_rows};
 ghost use Rattle.definition.specs.Promise.{problem_of, after};
 ghost use Rattle.numbers.specs.Meaning.{answer_meant};
-ghost use Rattle.cells.specs.View.{Room};
-ghost use Rattle.cells.specs.Rows.{Rows};
 ghost use Rattle.ordering.specs.Left.{lent, left};
 ghost use Rattle.ordering.specs.Course.{Course};
 ghost use Rattle.ordering.specs.Meets.{Meets};
 
+use cells::Memory;
 use numbers::{Answer, Outcome, Settings, Statistics};
+use pattern::Columns;
 
-// ---- the sizes of the workspaces
-
-// The cells of `lists` that n columns and nnz entries need, 0 outside the limits.
-pub fn lists_room(n: i64, nnz: i64) -> usize
-    ensures { result ≡ room_within base_limits lists_room n nnz }
-{
-    checks::lists_room(n, nnz)
-}
-
-// The cells of `scratch` that n columns and nnz entries need, 0 outside the limits.
-pub fn scratch_room(n: i64, nnz: i64) -> usize
-    ensures { result ≡ room_within base_limits scratch_room n nnz }
-{
-    checks::scratch_room(n, nnz)
-}
-
-// ---- what an answer says
-
-fn is_accepted(a: Answer) -> bool
-    ensures { result ≡ accepts (answer_meant a) }
-{
-    numbers::answer_number(a) < 2
-}
-
-fn is_jumbled(a: Answer) -> bool
-    ensures { result ≡ eqb (number_of (answer_meant a)) 1 }
-{
-    numbers::answer_number(a) == 1
-}
+// The cells of `lists` and of `scratch` that n columns and nnz entries need, 0 outside the limits.
+pub use checks::{lists_room, scratch_room};
 
 // ---- the numbers of a run
 
 // The dense threshold of n columns.
+#[tactic(auto, unfolding(definition::specs::Answers::or_full_rows))]
 fn limit_of(settings: Settings, n: usize) -> usize
     requires { (n ≤ base_limits.most_columns) × (is_none (rule_of settings.multiplier) ≡ false) }
     ensures { result ≡ threshold (or_full_rows (rule_of settings.multiplier)) n }
@@ -60,55 +34,24 @@ fn limit_of(settings: Settings, n: usize) -> usize
 // So many cells of lists that no pattern fills them, with no collection: what is behind them is cleared, and not used.
 const MOST_LISTS: usize = 0x2000_0000_0000_0000;
 
-// How many cells of the lists the elimination works in.
-fn part_size(lists: usize) -> usize
-    ensures { result ≡ min lists (2 ^ 61) }
-{
-    if lists < MOST_LISTS {
-        lists
-    } else {
-        MOST_LISTS
-    }
-}
-
 // ---- the ordering
-
-// The scratch is lent with anything in it: once it is cleared, no field is negative.
-fn blank(s: &mut [i64], n: usize)
-    requires { 16 * n + 16 ≤ length s.old }
-    ensures { Room n s.new }
-{
-    cells::clear(s);
-}
-
-// The lists too are lent with anything in them: once they are cleared, every cell holds a row.
-fn blank_lists(l: &mut [i64], n: usize)
-    requires { 0 < n }
-    ensures { Rows n l.new × (length l.new ≡ length l.old) }
-{
-    cells::clear(l);
-}
 
 // The pattern is taken, its graph eliminated, and the tree that this leaves put in order.
 fn order_pattern(
-    pointers: &[i32],
-    rows: &[i32],
+    m: &mut Memory,
+    pattern: Columns,
     settings: Settings,
     permutation: &mut [i32],
     inverse: &mut [i32],
-    lists: &mut [i64],
-    scratch: &mut [i64],
-    n: usize,
     jumbled: bool,
 ) -> Statistics
-    requires { Room n scratch.old × (0 < n) × (n ≤ base_limits.most_columns) × (is_none (rule_of settings.multiplier) ≡ false) }
-    ensures { Course n pointers.now rows.now settings jumbled lists.old scratch.old permutation.old inverse.old permutation.new inverse.new result }
+    requires { (m.old.n ≤ base_limits.most_columns) × (is_none (rule_of settings.multiplier) ≡ false) }
+    ensures { Course m.old.n pattern.entry.pointers.now pattern.entry.rows.now settings jumbled m.old.lists m.old.scratch permutation.old inverse.old permutation.new inverse.new result }
 {
-    blank_lists(lists, n);
-    let free = pattern::take_pattern(pointers, rows, lists, scratch, n, jumbled);
-    let limit = limit_of(settings, n);
-    let e = elimination::eliminate(lists, scratch, n, limit, free, settings.aggressive);
-    tree::order_tree(scratch, n, e.merges, permutation, inverse);
+    let free = pattern::take_pattern(m, pattern, jumbled);
+    let limit = limit_of(settings, m.columns());
+    let e = elimination::eliminate(m, limit, free, settings.aggressive);
+    tree::order_tree(m, e.merges, permutation, inverse);
     e.statistics
 }
 
@@ -132,19 +75,16 @@ fn order_columns(
     if columns == 0 {
         return numbers::no_statistics();
     }
-    blank(scratch, columns);
-    let size = part_size(lists.len());
-    let jumbled = is_jumbled(a);
+    let size = lists.len().min(MOST_LISTS);
+    let mut m = Memory::new(columns, &mut lists[..size], scratch);
+    let pattern = Columns { pointers, rows };
     order_pattern(
-        pointers,
-        rows,
+        &mut m,
+        pattern,
         settings,
         permutation,
         inverse,
-        &mut lists[0..size],
-        scratch,
-        columns,
-        jumbled,
+        a.is_jumbled(),
     )
 }
 
@@ -206,7 +146,7 @@ pub fn order(
         lists.len(),
         scratch.len(),
     );
-    if is_accepted(a) {
+    if a.is_accepted() {
         return order_accepted(
             n,
             pointers,

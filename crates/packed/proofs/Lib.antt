@@ -9,7 +9,6 @@ pub mod Spaces
 pub mod Waiting
 pub mod Packing
 pub mod Collection
-pub mod Trays
 pub mod Tables
 pub mod Gathers
 pub mod Taking

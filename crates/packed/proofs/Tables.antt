@@ -1,6 +1,6 @@
 -- The scratch table of a gather: its first numbers are rows, and it has a cell for each row that is wanted, whatever the memory holds elsewhere.
 -- Assumes nothing.
-use Rattle.std.proofs.Common.{◌≡◌, ℕ, ◌+◌, ◌<◌, ◌≤◌, false, cond, eqb, ltb, ◌≢◌, ◌⊎◌, List, ℤ, refl, ap, ◌∙◌, inl, inr, arith, lt-ltb}
+use Rattle.std.proofs.Common.{◌≡◌, ℕ, ◌+◌, ◌<◌, ◌≤◌, Bool, true, false, cond, eqb, ltb, ◌≢◌, ◌⊎◌, List, length, ℤ, refl, ap, ◌∙◌, inl, inr, arith, lt-ltb}
 use Rattle.plain.proofs.Logic.{cond_has}
 use Rattle.plain.proofs.Repeats.{length_count_up}
 use Rattle.plain.proofs.Sums.{total_most}
@@ -8,9 +8,9 @@ use Rattle.plain.proofs.Turns.{times_keeps}
 use Rattle.plain.specs.Lists.{up_to}
 use Rattle.plain.specs.Turns.{times}
 use Rattle.cells.proofs.Laws.{mem, rd_up_field, room_yes}
-use Rattle.cells.proofs.Slices.{same?}
+use Rattle.cells.proofs.Slices.{at_out, at_wr_same, length_wr, same?, split}
 use Rattle.cells.specs.Layout.{LEN, ORD, PE, TMP, WANT}
-use Rattle.cells.specs.View.{Room, rd, up}
+use Rattle.cells.specs.View.{Room, at, place, rd, up, within, wr}
 use Rattle.chain.proofs.Unlink.{removed_other}
 use Rattle.chain.specs.Model.{removed}
 use Rattle.packed.specs.Gather.{Cleared, cleared, collected_rest, made_room}
@@ -37,12 +37,25 @@ wanted_same : (n : ℕ) (s r : List ℤ) → ((i : ℕ) → rd n WANT r i ≡ rd
 unfolding wanted
 wanted_same n s r e = sum_same n (wish n s) (wish n r) (λ i b. rw (e i))
 
+-- a field that becomes 0 is 0, wherever its cell lies
+rd_up_none : (n f : ℕ) (s : List ℤ) (i : ℕ) → rd n f (up n f s i 0) i ≡ 0
+unfolding rd up
+rd_up_none n f s i = by (within n f i) (none (place n f i) (split (place n f i) (length s)))
+  where
+    none : (q : ℕ) → (q < length s) ⊎ (length s ≤ q) → at (wr s q 0) q ≡ 0
+    none q (inl h) = at_wr_same s q 0 h
+    none q (inr h) = at_out (wr s q 0) q (omega (arith, length_wr s q 0))
+
+    by : (b : Bool) → at (wr s (place n f i) 0) (place n f i) ≡ 0 → cond b (at (cond b (wr s (place n f i) 0) s) (place n f i)) 0 ≡ 0
+    by true h = h
+    by false h = refl
+
 -- one of them is wanted no more
-wanted_less : (n : ℕ) (s : List ℤ) (x : ℕ) → Room n s → x < n → 0 < rd n WANT s x → wanted n (up n WANT s x 0) + 1 ≡ wanted n s
+wanted_less : (n : ℕ) (s : List ℤ) (x : ℕ) → x < n → 0 < rd n WANT s x → wanted n (up n WANT s x 0) + 1 ≡ wanted n s
 unfolding wanted
-wanted_less n s x room hx w =
+wanted_less n s x hx w =
     let before : wish n s x ≡ 1 = rw (lt-ltb 0 (rd n WANT s x) w) in
-    let none : rd n WANT (up n WANT s x 0) x ≡ 0 = simp (mem, room_yes n s room, lt-ltb x n hx) in
+    let none : rd n WANT (up n WANT s x 0) x ≡ 0 = rd_up_none n WANT s x in
     let after : wish n (up n WANT s x 0) x ≡ 0 = rw none in
     omega (
       arith,
@@ -57,20 +70,14 @@ wanted_less n s x room hx w =
 pub tabled_none : (n : ℕ) (s : List ℤ) → Tabled n s 0
 tabled_none n s = record { spare = omega (arith, wanted_most n s); rows = λ t h. absurd (omega arith) }
 
-pub tabled_few : (n : ℕ) (s : List ℤ) (k : ℕ) → Tabled n s k → k ≤ n
-tabled_few n s k h = omega (arith, h.spare)
-
-pub tabled_low : (n : ℕ) (s : List ℤ) (k t x : ℕ) → Tabled n s k → x ≡ rd n TMP s t → t < k → x < n
-tabled_low n s k t x h e l = omega (arith, h.rows t l)
-
 -- another memory has the same table, and wants no more rows
 tabled_same : (n : ℕ) (s r : List ℤ) (k : ℕ) → ((t : ℕ) → rd n TMP r t ≡ rd n TMP s t) → wanted n r ≤ wanted n s → Tabled n s k → Tabled n r k
 tabled_same n s r k e w h = record { spare = omega (arith, h.spare); rows = λ t b. omega (arith, e t, h.rows t b) }
 
 -- a row that was wanted is so no more: the table has a cell for it
-module _ (n : ℕ) (s : List ℤ) (x w : ℕ) (a : List ℤ) (k : ℕ) (h : Tabled n s k) (room : Room n s) (hx : x < n) (hw : w ≡ rd n WANT s x) (z : 0 < w) (e : a ≡ up n WANT s x 0) where
+module _ (n : ℕ) (s : List ℤ) (x w : ℕ) (a : List ℤ) (k : ℕ) (h : Tabled n s k) (hx : x < n) (hw : w ≡ rd n WANT s x) (z : 0 < w) (e : a ≡ up n WANT s x 0) where
   less : wanted n a + 1 ≡ wanted n s
-  less = rw e (wanted_less n s x room hx (omega arith))
+  less = rw e (wanted_less n s x hx (omega arith))
 
   pub tabled_want : Tabled n a k
   tabled_want = tabled_same n s a k (λ t. rw e (simp mem)) (omega (arith, less)) h
@@ -78,20 +85,20 @@ module _ (n : ℕ) (s : List ℤ) (x w : ℕ) (a : List ℤ) (k : ℕ) (h : Tabl
   pub tabled_spare : k + wanted n a < n
   tabled_spare = omega (arith, less, h.spare)
 
--- one row more
-pub tabled_row : (n x quota reads : ℕ) (s : List ℤ) (t : Tray) (a b : List ℤ) (r : Tray) → a ≡ up n TMP s t.cnt x → b ≡ removed n a x → r ≡ counted quota reads t
+-- one row more, whichever leaves its degree list
+pub tabled_row : (n x y quota reads : ℕ) (s : List ℤ) (t : Tray) (a b : List ℤ) (r : Tray) → a ≡ up n TMP s t.cnt x → b ≡ removed n a y → r ≡ counted quota reads t
     → Tabled n s t.cnt → Room n s → x < n → t.cnt + wanted n s < n → Tabled n b r.cnt
 unfolding counted
-tabled_row n x quota reads s t a b r ha hb hr h room hx hc =
+tabled_row n x y quota reads s t a b r ha hb hr h room hx hc =
     rw (hb, ha, hr)
     record {
       spare =
           omega (
             arith,
-            wanted_same n s (removed n (up n TMP s t.cnt x) x)
-                (λ i. removed_other n (up n TMP s t.cnt x) x WANT i refl refl refl ∙ rd_up_field n TMP WANT s t.cnt x i refl),
+            wanted_same n s (removed n (up n TMP s t.cnt x) y)
+                (λ i. removed_other n (up n TMP s t.cnt x) y WANT i refl refl refl ∙ rd_up_field n TMP WANT s t.cnt x i refl),
           );
-      rows = λ i l. rw (removed_other n (up n TMP s t.cnt x) x TMP i refl refl refl) (by i l (same? i t.cnt));
+      rows = λ i l. rw (removed_other n (up n TMP s t.cnt x) y TMP i refl refl refl) (by i l (same? i t.cnt));
     }
   where
     by : (i : ℕ) → i < t.cnt + 1 → (i ≡ t.cnt) ⊎ (i ≢ t.cnt) → rd n TMP (up n TMP s t.cnt x) i < n
@@ -133,7 +140,10 @@ module _ (n c i : ℕ) (hl : eqb LEN c ≡ false) (hp : eqb PE c ≡ false) wher
       cond_has (λ (y : Cleared). Kept s y.mem) (ltb 0 t.mark) (λ z. kept_packed base lim cnt l (up n LEN s me 0) ∙ e) (λ z. e)
 
 -- room is made
-pub tabled_room : (n me base lim cnt : ℕ) (t : Tray) (l s l₂ s₂ : List ℤ) (e : Ends) (k : ℕ) → Tabled n s k → cleared l₂ s₂ e ≡ made_room n me base lim cnt t l s → Tabled n s₂ k
-tabled_room n me base lim cnt t l s l₂ s₂ e k h c =
-    tabled_same n s s₂ k (λ i. ap (λ (y : Cleared). rd n TMP y.mem i) c ∙ kept_room n TMP i refl refl me base lim cnt t l s)
-    (omega (arith, wanted_same n s s₂ (λ i. ap (λ (y : Cleared). rd n WANT y.mem i) c ∙ kept_room n WANT i refl refl me base lim cnt t l s))) h
+pub tabled_room : (n n₁ n₂ me base lim cnt : ℕ) (t : Tray) (l s l₂ s₂ : List ℤ) (e : Ends) (k : ℕ) → n₁ ≡ n → n₂ ≡ n₁ → Tabled n s k
+    → cleared l₂ s₂ e ≡ made_room n₁ me base lim cnt t l s → Tabled n₂ s₂ k
+tabled_room n n₁ n₂ me base lim cnt t l s l₂ s₂ e k h₁ h₂ h g =
+    let c : cleared l₂ s₂ e ≡ made_room n me base lim cnt t l s = rw h₁ at g in
+    rw (h₂, h₁)
+    (tabled_same n s s₂ k (λ i. ap (λ (y : Cleared). rd n TMP y.mem i) c ∙ kept_room n TMP i refl refl me base lim cnt t l s)
+    (omega (arith, wanted_same n s s₂ (λ i. ap (λ (y : Cleared). rd n WANT y.mem i) c ∙ kept_room n WANT i refl refl me base lim cnt t l s))) h)

@@ -1,5 +1,5 @@
 -- The modules of `pattern` that belong to no one function.
-pub mod Steps
+pub mod Clearing
 pub mod Reaching
 pub mod Cursor
 pub mod Unwritten

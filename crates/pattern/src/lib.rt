@@ -1,204 +1,231 @@
 // The pattern that is ordered, in the scratch (preprocess.rs), and A+A' in the list space (aat.rs and the first half of amd_1.rs). What the Rust counts first
-// and writes then is here one pass, done twice: with every cursor at 0 it counts, and from each list's place it writes. What the first one stores is stored over.
+// and writes then is here one pass, done twice: with every cursor at 0 it counts, and from each list's place it writes. What the first one stores is
+// stored over.
 #![tactic(auto)]
 
 ghost use Rattle.std.specs.Prelude.{◌≡◌, ◌+◌, ◌-◌, ◌<◌, ◌≤◌, ◌^◌};
-ghost use Rattle.cells.specs.View.{at, rd, Room};
-ghost use Rattle.cells.specs.Rows.{Rows};
+ghost use Rattle.plain.specs.Turns.{times};
+ghost use Rattle.cells.specs.View.{at, rd, up};
+ghost use Rattle.cells.specs.Field.{field_number};
+ghost use Rattle.cells.specs.Space.{SameLists, SameSize};
 ghost use Rattle.pattern.specs.Reach.{reach, behind, past};
-ghost use Rattle.pattern.specs.Model.{copied_pointers, copied_rows, copied, cleared, cleared_all, rowed, visited, visited_column, visited_next, visited_all, spot, placed_row, placed_rows, transposed, tidied, heap, added, paired, paired_at, paired_part, passed, met, met_part, met_column, met_columns, met_rest, met_rests, scanned, emptied_all, placed_list, placed_lists, built, built_free};
+ghost use Rattle.pattern.specs.Model.{copied_pointers, copied_rows, copied, cleared_all, rowed, visited, visited_column, visited_next, visited_all, spot, placed_row, placed_rows, transposed, tidied, heap, added, paired, paired_at, paired_part, passed, met, met_part, met_column, met_columns, met_rest, met_rests, scanned, emptied_all, placed_list, placed_lists, built, built_free};
+
+use cells::{Field, Memory, SP, TP};
+
+/// The pattern as it is lent: column `j` stands in the rows from pointer `j` up to pointer `j + 1`.
+#[derive(Clone, Copy)]
+pub struct Columns<'a> {
+    pub pointers: &'a [i32],
+    pub rows: &'a [i32],
+}
 
 // ---- an orderly pattern is copied as it is
 
-pub fn copy_pointers(ptr: &[i32], s: &mut [i64], n: usize)
-    requires { Room n s.old }
-    ensures { (s.new ≡ copied_pointers n ptr.now s.old) × Room n s.new }
+#[tactic(auto, using(plain::proofs::Turns::turns), unfolding(crate::specs::Model::copied_pointers, crate::specs::Model::copied_pointer))]
+pub fn copy_pointers(m: &mut Memory, pointers: &[i32])
+    ensures { m.new ≡ record m.old { scratch = copied_pointers m.old.n pointers.now m.old.scratch } }
 {
-    for k in 0..n + 1 {
-        let p = cells::row_at(ptr, k);
-        cells::put_column(s, n, k, p);
+    for k in 0..=m.columns() {
+        m.put_column(k, cells::row_at(pointers, k));
     }
 }
 
-pub fn copy_rows(rows: &[i32], s: &mut [i64], n: usize, nnz: usize)
-    requires { Room n s.old }
-    ensures { (s.new ≡ copied_rows n rows.now nnz s.old) × Room n s.new }
+#[tactic(auto, using(plain::proofs::Turns::turns), unfolding(crate::specs::Model::copied_rows, crate::specs::Model::copied_row))]
+pub fn copy_rows(m: &mut Memory, rows: &[i32], count: usize)
+    ensures { m.new ≡ record m.old { scratch = copied_rows m.old.n rows.now count m.old.scratch } }
 {
-    for p in 0..nnz {
-        let i = cells::row_at(rows, p);
-        cells::put_entry(s, n, p, i);
+    for p in 0..count {
+        m.put_entry(p, cells::row_at(rows, p));
     }
 }
 
-pub fn copy(ptr: &[i32], rows: &[i32], s: &mut [i64], n: usize)
-    requires { Room n s.old }
-    ensures { (s.new ≡ copied n ptr.now rows.now s.old) × Room n s.new }
+#[tactic(auto, unfolding(crate::specs::Model::copied))]
+pub fn copy(m: &mut Memory, pattern: Columns)
+    ensures { m.new ≡ record m.old { scratch = copied m.old.n pattern.entry.pointers.now pattern.entry.rows.now m.old.scratch } }
 {
-    copy_pointers(ptr, s, n);
-    let nnz = cells::row_at(ptr, n);
-    copy_rows(rows, s, n, nnz);
+    copy_pointers(m, pattern.pointers);
+    let count = cells::row_at(pattern.pointers, m.columns());
+    copy_rows(m, pattern.rows, count);
 }
 
 // ---- a jumbled one is transposed, without repeats
 
-pub fn clear_row(s: &mut [i64], n: usize, i: usize)
-    requires { Room n s.old }
-    ensures { (s.new ≡ cleared n i s.old) × Room n s.new }
+// Every row's number of a field becomes 0.
+#[tactic(auto, using(plain::proofs::Turns::turns))]
+fn clear_field(m: &mut Memory, field: Field)
+    ensures { m.new ≡ record m.old { scratch = times m.old.n (λ i s. up m.old.n (field_number field) s i 0) m.old.scratch } }
 {
-    cells::put(s, n, cells::SP, i, 0);
-    cells::put(s, n, cells::TP, i, 0);
+    for i in 0..m.columns() {
+        m.up(field, i, 0);
+    }
 }
 
-pub fn start_cleaning(s: &mut [i64], n: usize)
-    requires { Room n s.old }
-    ensures { (s.new ≡ cleared_all n s.old) × Room n s.new }
+#[tactic(auto, using(crate::proofs::Clearing::cleared_apart))]
+pub fn start_cleaning(m: &mut Memory)
+    ensures { m.new ≡ record m.old { scratch = cleared_all m.old.n m.old.scratch } }
 {
-    for i in 0..n {
-        clear_row(s, n, i);
-    }
+    clear_field(m, SP);
+    clear_field(m, TP);
 }
 
 // Column `j` becomes the next entry of row `i`.
-pub fn write_row(s: &mut [i64], n: usize, j: usize, i: usize)
-    requires { Room n s.old × (j < n) }
-    ensures { (s.new ≡ rowed n j i s.old) × Room n s.new }
+#[tactic(auto, unfolding(crate::specs::Model::rowed))]
+pub fn write_row(m: &mut Memory, j: usize, i: usize)
+    requires { j < m.old.n }
+    ensures { m.new ≡ record m.old { scratch = rowed m.old.n j i m.old.scratch } }
 {
-    let at = cells::tab(s, n, cells::SP, i);
-    cells::put_entry(s, n, at, j);
-    let next = cells::plus(at, 1);
-    cells::put(s, n, cells::SP, i, next);
-    cells::put(s, n, cells::TP, i, j + 1);
+    prove!(j < m.columns());
+    let at = m.rd(SP, i);
+    m.put_entry(at, j);
+    m.up(SP, i, cells::plus(at, 1));
+    m.up(TP, i, j + 1);
 }
 
 // The same where column `j` did not have row `i` before.
-pub fn visit(s: &mut [i64], n: usize, j: usize, i: usize)
-    requires { Room n s.old × (j < n) }
-    ensures { (s.new ≡ visited n j i s.old) × Room n s.new }
+#[tactic(auto, unfolding(crate::specs::Model::visited))]
+pub fn visit(m: &mut Memory, j: usize, i: usize)
+    requires { j < m.old.n }
+    ensures { m.new ≡ record m.old { scratch = visited m.old.n j i m.old.scratch } }
 {
-    let last = cells::tab(s, n, cells::TP, i);
+    prove!(j < m.columns());
+    let last = m.rd(TP, i);
     if last != j + 1 {
-        write_row(s, n, j, i);
+        write_row(m, j, i);
     }
 }
 
-pub fn visit_column(rows: &[i32], s: &mut [i64], n: usize, j: usize, from: usize, count: usize)
-    requires { Room n s.old × (j < n) × (from < 2 ^ 63) × (count < 2 ^ 63) }
-    ensures { (s.new ≡ visited_column n rows.now j from count s.old) × Room n s.new }
+#[tactic(auto, using(plain::proofs::Turns::turns), unfolding(crate::specs::Model::visited_column))]
+pub fn visit_column(m: &mut Memory, rows: &[i32], j: usize, from: usize, count: usize)
+    requires { (j < m.old.n) × (from < 2 ^ 63) × (count < 2 ^ 63) }
+    ensures { m.new ≡ record m.old { scratch = visited_column m.old.n rows.now j from count m.old.scratch } }
 {
     for t in 0..count {
-        let i = cells::row_at(rows, from + t);
-        visit(s, n, j, i);
+        visit(m, j, cells::row_at(rows, from + t));
     }
 }
 
-pub fn visit_next(ptr: &[i32], rows: &[i32], s: &mut [i64], n: usize, j: usize)
-    requires { Room n s.old × (j < n) }
-    ensures { (s.new ≡ visited_next n ptr.now rows.now j s.old) × Room n s.new }
+#[tactic(auto, unfolding(crate::specs::Model::visited_next))]
+pub fn visit_next(m: &mut Memory, pattern: Columns, j: usize)
+    requires { j < m.old.n }
+    ensures { m.new ≡ record m.old { scratch = visited_next m.old.n pattern.entry.pointers.now pattern.entry.rows.now j m.old.scratch } }
 {
-    let from = cells::row_at(ptr, j);
-    let to = cells::row_at(ptr, j + 1);
-    let count = cells::less(to, from);
-    visit_column(rows, s, n, j, from, count);
+    prove!(j < m.columns());
+    let from = cells::row_at(pattern.pointers, j);
+    let to = cells::row_at(pattern.pointers, j + 1);
+    visit_column(m, pattern.rows, j, from, to.saturating_sub(from));
 }
 
-pub fn visit_all(ptr: &[i32], rows: &[i32], s: &mut [i64], n: usize)
-    requires { Room n s.old }
-    ensures { (s.new ≡ visited_all n ptr.now rows.now s.old) × Room n s.new }
+#[tactic(auto, using(plain::proofs::Turns::turns), unfolding(crate::specs::Model::visited_all))]
+pub fn visit_all(m: &mut Memory, pattern: Columns)
+    ensures { m.new ≡ record m.old { scratch = visited_all m.old.n pattern.entry.pointers.now pattern.entry.rows.now m.old.scratch } }
 {
-    for j in 0..n {
-        visit_next(ptr, rows, s, n, j);
+    for j in 0..m.columns() {
+        visit_next(m, pattern, j);
     }
 }
 
 // The place of row `i` is `free`; the result is the next free place.
-pub fn place_row(s: &mut [i64], n: usize, i: usize, free: usize) -> usize
-    requires { Room n s.old × (free < 2 ^ 63) }
-    ensures { (spot s.new result ≡ placed_row n i (spot s.old free)) × Room n s.new × (result < 2 ^ 63) }
+#[tactic(auto, unfolding(crate::specs::Model::placed_row))]
+pub fn place_row(m: &mut Memory, i: usize, free: usize) -> usize
+    requires { free < 2 ^ 63 }
+    ensures memory { spot m.new.scratch result ≡ placed_row m.old.n i (spot m.old.scratch free) }
+    ensures lists { SameLists m.old m.new }
+    ensures small { result < 2 ^ 63 }
 {
-    let count = cells::tab(s, n, cells::SP, i);
-    cells::put_column(s, n, i, free);
-    cells::put(s, n, cells::SP, i, free);
-    cells::put(s, n, cells::TP, i, 0);
+    let count = m.rd(SP, i);
+    m.put_column(i, free);
+    m.up(SP, i, free);
+    m.up(TP, i, 0);
     cells::plus(free, count)
 }
 
-pub fn place_rows(s: &mut [i64], n: usize) -> usize
-    requires { Room n s.old }
-    ensures { (spot s.new result ≡ placed_rows n s.old) × Room n s.new × (result < 2 ^ 63) }
+#[tactic(auto, using(plain::proofs::Turns::turns), unfolding(crate::specs::Model::placed_rows))]
+pub fn place_rows(m: &mut Memory) -> usize
+    ensures memory { spot m.new.scratch result ≡ placed_rows m.old.n m.old.scratch }
+    ensures lists { SameLists m.old m.new }
+    ensures small { result < 2 ^ 63 }
 {
     let mut free = 0;
-    for i in 0..n {
-        free = place_row(s, n, i, free);
+    for i in 0..m.columns() {
+        free = place_row(m, i, free);
     }
     free
 }
 
-pub fn clean(ptr: &[i32], rows: &[i32], s: &mut [i64], n: usize)
-    requires { Room n s.old }
-    ensures { (s.new ≡ transposed n ptr.now rows.now s.old) × Room n s.new }
+#[tactic(auto, unfolding(crate::specs::Model::transposed, crate::specs::Model::closed_rows))]
+pub fn clean(m: &mut Memory, pattern: Columns)
+    ensures { m.new ≡ record m.old { scratch = transposed m.old.n pattern.entry.pointers.now pattern.entry.rows.now m.old.scratch } }
 {
-    start_cleaning(s, n);
-    visit_all(ptr, rows, s, n);
-    let free = place_rows(s, n);
-    cells::put_column(s, n, n, free);
-    visit_all(ptr, rows, s, n);
+    start_cleaning(m);
+    visit_all(m, pattern);
+    let free = place_rows(m);
+    m.put_column(m.columns(), free);
+    visit_all(m, pattern);
 }
 
-pub fn tidy(ptr: &[i32], rows: &[i32], s: &mut [i64], n: usize, jumbled: bool)
-    requires { Room n s.old }
-    ensures { (s.new ≡ tidied n ptr.now rows.now jumbled s.old) × Room n s.new }
+#[tactic(auto, unfolding(crate::specs::Model::tidied))]
+pub fn tidy(m: &mut Memory, pattern: Columns, jumbled: bool)
+    ensures { m.new ≡ record m.old { scratch = tidied m.old.n pattern.entry.pointers.now pattern.entry.rows.now jumbled m.old.scratch } }
 {
     if jumbled {
-        clean(ptr, rows, s, n);
+        clean(m, pattern);
     } else {
-        copy(ptr, rows, s, n);
+        copy(m, pattern);
     }
 }
 
 // ---- the pairs of A+A', in the order of amd_1.rs
 
 // `x` becomes the next neighbour of `i`.
-pub fn add(lists: &mut [i64], s: &mut [i64], n: usize, i: usize, x: usize)
-    requires { Room n s.old × Rows n lists.old × (i < n) × (x < n) × (x < 2 ^ 63) }
-    ensures { (heap lists.new s.new ≡ added n i x (heap lists.old s.old)) × Room n s.new × Rows n lists.new }
+#[tactic(auto, unfolding(crate::specs::Model::added))]
+pub fn add(m: &mut Memory, i: usize, x: usize)
+    requires { (i < m.old.n) × (x < m.old.n) }
+    ensures memory { heap m.new.lists m.new.scratch ≡ added m.old.n i x (heap m.old.lists m.old.scratch) }
+    ensures size { SameSize m.old m.new }
 {
-    let at = cells::look(s, n, cells::SP, i);
-    cells::poke_row(lists, n, at, x);
-    let next = cells::plus(at, 1);
-    cells::note(s, n, cells::SP, i, next);
+    let at = m.get(SP, i);
+    m.poke_row(at, x);
+    m.set(SP, i, cells::plus(at, 1));
 }
 
-pub fn add_pair(lists: &mut [i64], s: &mut [i64], n: usize, i: usize, j: usize)
-    requires { Room n s.old × Rows n lists.old × (i < n) × (j < n) × (i < 2 ^ 63) × (j < 2 ^ 63) }
-    ensures { (heap lists.new s.new ≡ paired n i j (heap lists.old s.old)) × Room n s.new × Rows n lists.new }
+#[tactic(auto, unfolding(crate::specs::Model::paired))]
+pub fn add_pair(m: &mut Memory, i: usize, j: usize)
+    requires { (i < m.old.n) × (j < m.old.n) }
+    ensures memory { heap m.new.lists m.new.scratch ≡ paired m.old.n i j (heap m.old.lists m.old.scratch) }
+    ensures size { SameSize m.old m.new }
 {
-    add(lists, s, n, i, j);
-    add(lists, s, n, j, i);
+    add(m, i, j);
+    add(m, j, i);
 }
 
 // The entry of column `j` at `p`, if it is a row.
-pub fn pair_at(lists: &mut [i64], s: &mut [i64], n: usize, j: usize, p: usize)
-    requires { Room n s.old × Rows n lists.old × (j < n) × (j < 2 ^ 63) }
-    ensures { (heap lists.new s.new ≡ paired_at n j p (heap lists.old s.old)) × Room n s.new × Rows n lists.new }
+#[tactic(auto, unfolding(crate::specs::Model::paired_at))]
+pub fn pair_at(m: &mut Memory, j: usize, p: usize)
+    requires { j < m.old.n }
+    ensures memory { heap m.new.lists m.new.scratch ≡ paired_at m.old.n j p (heap m.old.lists m.old.scratch) }
+    ensures size { SameSize m.old m.new }
 {
-    let i = cells::entry(s, n, p);
-    if i < n {
-        add_pair(lists, s, n, i, j);
+    let i = m.entry(p);
+    if i < m.columns() {
+        add_pair(m, i, j);
     }
 }
 
 // The entries of column `j` from `from` on, before `to`.
-pub fn pair_part(lists: &mut [i64], s: &mut [i64], n: usize, j: usize, from: usize, to: usize)
-    requires { Room n s.old × Rows n lists.old × (j < n) × (j < 2 ^ 63) × (from < 2 ^ 63) × (to < 2 ^ 63) }
-    ensures { (heap lists.new s.new ≡ paired_part n j from to (heap lists.old s.old)) × Room n s.new × Rows n lists.new }
+#[tactic(auto, using(plain::proofs::Turns::times_after), unfolding(crate::specs::Model::paired_part, plain::specs::Turns::times))]
+pub fn pair_part(m: &mut Memory, j: usize, from: usize, to: usize)
+    requires { j < m.old.n }
+    ensures memory { heap m.new.lists m.new.scratch ≡ paired_part m.old.n j from to (heap m.old.lists m.old.scratch) }
+    ensures size { SameSize m.old m.new }
 {
-    let count = cells::less(to, from);
-    for t in 0..count {
-        pair_at(lists, s, n, j, from + t);
+    for p in from..to {
+        pair_at(m, j, p);
     }
 }
 
 // The next place of a column, where row `i` stands at `p`, which is not above row `k`: one further, if it is row `k` itself.
+#[tactic(auto, unfolding(crate::specs::Reach::behind))]
 fn pass_row(i: usize, k: usize, p: usize) -> usize
     requires { p < 2 ^ 63 }
     ensures { (result ≡ behind i k p) × (result ≤ p + 1) }
@@ -207,179 +234,182 @@ fn pass_row(i: usize, k: usize, p: usize) -> usize
 }
 
 // The entries of column `j` from `from` on, before `to` and above row `k`. The result is the next place.
-pub fn pair_above(
-    lists: &mut [i64],
-    s: &mut [i64],
-    n: usize,
-    j: usize,
-    k: usize,
-    from: usize,
-    to: usize,
-) -> usize
-    requires { Room n s.old × Rows n lists.old × (j < n) × (j < 2 ^ 63) × (k < n) × (from < 2 ^ 63) × (to < 2 ^ 63) }
-    ensures { (heap lists.new s.new ≡ paired_part n j from (reach (rd n 16 s.old) k from to) (heap lists.old s.old)) × (result ≡ past (rd n 16 s.old) k (reach (rd n 16 s.old) k from to) to) × Room n s.new × Rows n lists.new × (result < 2 ^ 63) }
+// `meet_above` is this loop with another step: one function for both takes the step, and that step's model and law in its contract are longer than the loop.
+pub fn pair_above(m: &mut Memory, j: usize, k: usize, from: usize, to: usize) -> usize
+    requires { (j < m.old.n) × (k < m.old.n) × (from < 2 ^ 63) × (to < 2 ^ 63) }
+    ensures memory { heap m.new.lists m.new.scratch ≡ paired_part m.old.n j from (reach (rd m.old.n 16 m.old.scratch) k from to) (heap m.old.lists m.old.scratch) }
+    ensures next { result ≡ past (rd m.old.n 16 m.old.scratch) k (reach (rd m.old.n 16 m.old.scratch) k from to) to }
+    ensures size { SameSize m.old m.new }
+    ensures small { result < 2 ^ 63 }
 {
-    let mut p = from;
-    while p < to {
-        let i = cells::entry(s, n, p);
+    for p in from..to {
+        let i = m.entry(p);
         if k <= i {
             return pass_row(i, k, p);
         }
-        add_pair(lists, s, n, i, j);
-        p += 1;
+        add_pair(m, i, j);
     }
-    p
+    from.max(to)
 }
 
 // What waits in column `j` before row `k`: it is in no column above the diagonal. Row `k` itself, if it is next, is the pair that led here.
-pub fn pass(lists: &mut [i64], s: &mut [i64], n: usize, j: usize, k: usize)
-    requires { Room n s.old × Rows n lists.old × (j < n) × (j < 2 ^ 63) × (k < n) }
-    ensures { (heap lists.new s.new ≡ passed n j k (heap lists.old s.old)) × Room n s.new × Rows n lists.new }
+#[tactic(auto, unfolding(crate::specs::Model::passed, crate::specs::Model::marked, crate::specs::Model::stop_of, crate::specs::Model::next_of))]
+pub fn pass(m: &mut Memory, j: usize, k: usize)
+    requires { (j < m.old.n) × (k < m.old.n) }
+    ensures memory { heap m.new.lists m.new.scratch ≡ passed m.old.n j k (heap m.old.lists m.old.scratch) }
+    ensures size { SameSize m.old m.new }
 {
-    let from = cells::look(s, n, cells::TP, j);
-    let to = cells::column(s, n, j + 1);
-    let next = pair_above(lists, s, n, j, k, from, to);
-    cells::note(s, n, cells::TP, j, next);
+    prove!(j < m.columns());
+    let from = m.get(TP, j);
+    let to = m.column(j + 1);
+    let next = pair_above(m, j, k, from, to);
+    m.set(TP, j, next);
 }
 
 // Row `j` of column `k`, above the diagonal.
-pub fn meet(lists: &mut [i64], s: &mut [i64], n: usize, k: usize, j: usize)
-    requires { Room n s.old × Rows n lists.old × (k < n) × (k < 2 ^ 63) × (j < n) × (j < 2 ^ 63) }
-    ensures { (heap lists.new s.new ≡ met n k j (heap lists.old s.old)) × Room n s.new × Rows n lists.new }
+#[tactic(auto, unfolding(crate::specs::Model::met))]
+pub fn meet(m: &mut Memory, k: usize, j: usize)
+    requires { (k < m.old.n) × (j < m.old.n) }
+    ensures memory { heap m.new.lists m.new.scratch ≡ met m.old.n k j (heap m.old.lists m.old.scratch) }
+    ensures size { SameSize m.old m.new }
 {
-    add_pair(lists, s, n, j, k);
-    pass(lists, s, n, j, k);
+    add_pair(m, j, k);
+    pass(m, j, k);
 }
 
 // The entries of column `k` from `from` on, before `to` and above the diagonal. The result is the next place.
-pub fn meet_above(
-    lists: &mut [i64],
-    s: &mut [i64],
-    n: usize,
-    k: usize,
-    from: usize,
-    to: usize,
-) -> usize
-    requires { Room n s.old × Rows n lists.old × (k < n) × (k < 2 ^ 63) × (from < 2 ^ 63) × (to < 2 ^ 63) }
-    ensures { (heap lists.new s.new ≡ met_part n k from (reach (rd n 16 s.old) k from to) (heap lists.old s.old)) × (result ≡ past (rd n 16 s.old) k (reach (rd n 16 s.old) k from to) to) × Room n s.new × Rows n lists.new × (result < 2 ^ 63) }
+pub fn meet_above(m: &mut Memory, k: usize, from: usize, to: usize) -> usize
+    requires { (k < m.old.n) × (from < 2 ^ 63) × (to < 2 ^ 63) }
+    ensures memory { heap m.new.lists m.new.scratch ≡ met_part m.old.n k from (reach (rd m.old.n 16 m.old.scratch) k from to) (heap m.old.lists m.old.scratch) }
+    ensures next { result ≡ past (rd m.old.n 16 m.old.scratch) k (reach (rd m.old.n 16 m.old.scratch) k from to) to }
+    ensures size { SameSize m.old m.new }
+    ensures small { result < 2 ^ 63 }
 {
-    let mut p = from;
-    while p < to {
-        let j = cells::entry(s, n, p);
+    for p in from..to {
+        let j = m.entry(p);
         if k <= j {
             return pass_row(j, k, p);
         }
-        meet(lists, s, n, k, j);
-        p += 1;
+        meet(m, k, j);
     }
-    p
+    from.max(to)
 }
 
 // Column `k`: its entries above the diagonal in turn, and what is below waits.
-pub fn meet_column(lists: &mut [i64], s: &mut [i64], n: usize, k: usize)
-    requires { Room n s.old × Rows n lists.old × (k < n) × (k < 2 ^ 63) }
-    ensures { (heap lists.new s.new ≡ met_column n k (heap lists.old s.old)) × Room n s.new × Rows n lists.new }
+#[tactic(auto, unfolding(crate::specs::Model::met_column, crate::specs::Model::marked, crate::specs::Model::stop_of, crate::specs::Model::next_of))]
+pub fn meet_column(m: &mut Memory, k: usize)
+    requires { k < m.old.n }
+    ensures memory { heap m.new.lists m.new.scratch ≡ met_column m.old.n k (heap m.old.lists m.old.scratch) }
+    ensures size { SameSize m.old m.new }
 {
-    let from = cells::column(s, n, k);
-    let to = cells::column(s, n, k + 1);
-    let next = meet_above(lists, s, n, k, from, to);
-    cells::note(s, n, cells::TP, k, next);
+    prove!(k < m.columns());
+    let from = m.column(k);
+    let to = m.column(k + 1);
+    let next = meet_above(m, k, from, to);
+    m.set(TP, k, next);
 }
 
-pub fn meet_columns(lists: &mut [i64], s: &mut [i64], n: usize)
-    requires { Room n s.old × Rows n lists.old }
-    ensures { (heap lists.new s.new ≡ met_columns n (heap lists.old s.old)) × Room n s.new × Rows n lists.new }
+#[tactic(auto, using(plain::proofs::Turns::turns), unfolding(crate::specs::Model::met_columns))]
+pub fn meet_columns(m: &mut Memory)
+    ensures memory { heap m.new.lists m.new.scratch ≡ met_columns m.old.n (heap m.old.lists m.old.scratch) }
+    ensures size { SameSize m.old m.new }
 {
-    for k in 0..n {
-        meet_column(lists, s, n, k);
+    for k in 0..m.columns() {
+        meet_column(m, k);
     }
 }
 
 // What is left of column `j` has no mate above the diagonal.
-pub fn meet_rest(lists: &mut [i64], s: &mut [i64], n: usize, j: usize)
-    requires { Room n s.old × Rows n lists.old × (j < n) × (j < 2 ^ 63) }
-    ensures { (heap lists.new s.new ≡ met_rest n j (heap lists.old s.old)) × Room n s.new × Rows n lists.new }
+#[tactic(auto, unfolding(crate::specs::Model::met_rest))]
+pub fn meet_rest(m: &mut Memory, j: usize)
+    requires { j < m.old.n }
+    ensures memory { heap m.new.lists m.new.scratch ≡ met_rest m.old.n j (heap m.old.lists m.old.scratch) }
+    ensures size { SameSize m.old m.new }
 {
-    let from = cells::look(s, n, cells::TP, j);
-    let to = cells::column(s, n, j + 1);
-    pair_part(lists, s, n, j, from, to);
+    prove!(j < m.columns());
+    let from = m.get(TP, j);
+    let to = m.column(j + 1);
+    pair_part(m, j, from, to);
 }
 
-pub fn meet_rests(lists: &mut [i64], s: &mut [i64], n: usize)
-    requires { Room n s.old × Rows n lists.old }
-    ensures { (heap lists.new s.new ≡ met_rests n (heap lists.old s.old)) × Room n s.new × Rows n lists.new }
+#[tactic(auto, using(plain::proofs::Turns::turns), unfolding(crate::specs::Model::met_rests))]
+pub fn meet_rests(m: &mut Memory)
+    ensures memory { heap m.new.lists m.new.scratch ≡ met_rests m.old.n (heap m.old.lists m.old.scratch) }
+    ensures size { SameSize m.old m.new }
 {
-    for j in 0..n {
-        meet_rest(lists, s, n, j);
+    for j in 0..m.columns() {
+        meet_rest(m, j);
     }
 }
 
-pub fn scan(lists: &mut [i64], s: &mut [i64], n: usize)
-    requires { Room n s.old × Rows n lists.old }
-    ensures { (heap lists.new s.new ≡ scanned n (heap lists.old s.old)) × Room n s.new × Rows n lists.new }
+#[tactic(auto, unfolding(crate::specs::Model::scanned))]
+pub fn scan(m: &mut Memory)
+    ensures memory { heap m.new.lists m.new.scratch ≡ scanned m.old.n (heap m.old.lists m.old.scratch) }
+    ensures size { SameSize m.old m.new }
 {
-    meet_columns(lists, s, n);
-    meet_rests(lists, s, n);
+    meet_columns(m);
+    meet_rests(m);
 }
 
 // ---- the lists
 
-pub fn start_building(s: &mut [i64], n: usize)
-    requires { Room n s.old }
-    ensures { (s.new ≡ emptied_all n s.old) × Room n s.new }
+#[tactic(auto, unfolding(crate::specs::Model::emptied_all, crate::specs::Model::emptied))]
+pub fn start_building(m: &mut Memory)
+    ensures { m.new ≡ record m.old { scratch = emptied_all m.old.n m.old.scratch } }
 {
-    for i in 0..n {
-        cells::put(s, n, cells::SP, i, 0);
-    }
+    clear_field(m, SP);
 }
 
 // The list of row `i` begins at `free`; the result is the next free place.
-pub fn place_list(s: &mut [i64], n: usize, i: usize, free: usize) -> usize
-    requires { Room n s.old × (free < 2 ^ 63) }
-    ensures { (spot s.new result ≡ placed_list n i (spot s.old free)) × Room n s.new × (result < 2 ^ 63) }
+#[tactic(auto, unfolding(crate::specs::Model::placed_list))]
+pub fn place_list(m: &mut Memory, i: usize, free: usize) -> usize
+    requires { free < 2 ^ 63 }
+    ensures memory { spot m.new.scratch result ≡ placed_list m.old.n i (spot m.old.scratch free) }
+    ensures lists { SameLists m.old m.new }
+    ensures small { result < 2 ^ 63 }
 {
-    let count = cells::tab(s, n, cells::SP, i);
-    cells::up(s, n, cells::LEN, i, count);
-    cells::up(s, n, cells::PE, i, free);
-    cells::put(s, n, cells::SP, i, free);
+    let count = m.rd(SP, i);
+    m.up(Field::Len, i, count);
+    m.up(Field::Pe, i, free);
+    m.up(SP, i, free);
     cells::plus(free, count)
 }
 
-pub fn place_lists(s: &mut [i64], n: usize) -> usize
-    requires { Room n s.old }
-    ensures { (spot s.new result ≡ placed_lists n s.old) × Room n s.new × (result < 2 ^ 63) }
+#[tactic(auto, using(plain::proofs::Turns::turns), unfolding(crate::specs::Model::placed_lists))]
+pub fn place_lists(m: &mut Memory) -> usize
+    ensures memory { spot m.new.scratch result ≡ placed_lists m.old.n m.old.scratch }
+    ensures lists { SameLists m.old m.new }
+    ensures small { result < 2 ^ 63 }
 {
     let mut free = 0;
-    for i in 0..n {
-        free = place_list(s, n, i, free);
+    for i in 0..m.columns() {
+        free = place_list(m, i, free);
     }
     free
 }
 
 // A+A' of the columns in the scratch, packed from the start of the list space; the result is the next free place.
-pub fn build(lists: &mut [i64], s: &mut [i64], n: usize) -> usize
-    requires { Room n s.old × Rows n lists.old }
-    ensures { (heap lists.new s.new ≡ built n lists.old s.old) × (result ≡ built_free n lists.old s.old) × Room n s.new × Rows n lists.new × (result < 2 ^ 63) }
+#[tactic(auto, unfolding(crate::specs::Model::built, crate::specs::Model::placed, crate::specs::Model::counted, crate::specs::Model::built_free))]
+pub fn build(m: &mut Memory) -> usize
+    ensures memory { heap m.new.lists m.new.scratch ≡ built m.old.n m.old.lists m.old.scratch }
+    ensures free { result ≡ built_free m.old.n m.old.lists m.old.scratch }
+    ensures size { SameSize m.old m.new }
+    ensures small { result < 2 ^ 63 }
 {
-    start_building(s, n);
-    scan(lists, s, n);
-    let free = place_lists(s, n);
-    scan(lists, s, n);
+    start_building(m);
+    scan(m);
+    let free = place_lists(m);
+    scan(m);
     free
 }
 
 // The pattern, jumbled or not, as the lists of A+A'.
-pub fn take_pattern(
-    ptr: &[i32],
-    rows: &[i32],
-    lists: &mut [i64],
-    s: &mut [i64],
-    n: usize,
-    jumbled: bool,
-) -> usize
-    requires { Room n s.old × Rows n lists.old }
-    ensures { (heap lists.new s.new ≡ built n lists.old (tidied n ptr.now rows.now jumbled s.old)) × (result ≡ built_free n lists.old (tidied n ptr.now rows.now jumbled s.old)) × Room n s.new × Rows n lists.new × (result < 2 ^ 63) }
+pub fn take_pattern(m: &mut Memory, pattern: Columns, jumbled: bool) -> usize
+    ensures memory { heap m.new.lists m.new.scratch ≡ built m.old.n m.old.lists (tidied m.old.n pattern.entry.pointers.now pattern.entry.rows.now jumbled m.old.scratch) }
+    ensures free { result ≡ built_free m.old.n m.old.lists (tidied m.old.n pattern.entry.pointers.now pattern.entry.rows.now jumbled m.old.scratch) }
+    ensures size { SameSize m.old m.new }
+    ensures small { result < 2 ^ 63 }
 {
-    tidy(ptr, rows, s, n, jumbled);
-    build(lists, s, n)
+    tidy(m, pattern, jumbled);
+    build(m)
 }

@@ -1,5 +1,4 @@
 -- The laws of `placing` that belong to no one function.
-pub mod Steps
 pub mod Restoring
 pub mod Survivors
 pub mod Element

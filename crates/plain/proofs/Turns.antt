@@ -1,9 +1,9 @@
 -- A counting loop is a fold by turns: the three steps of its invariant, what its turns keep, and two loops side by side.
 -- Assumes nothing.
-use Prim.Native.Nat.{ℕ, zero, suc, ◌+◌, ◌≤◌, ◌<◌}
+use Prim.Native.Nat.{ℕ, zero, suc, ◌+◌, ◌-◌, ◌≤◌, ◌<◌}
 use native.Mathlib.Omega.{arith}
 use native.Mathlib.Numerals.{add-one}
-use native.Mathlib.Nat.{add-zero, suc-add, add-suc}
+use native.Mathlib.Nat.{add-zero, suc-add, add-suc, sub_self, sub-zero}
 use mathlib.Core.Path.{◌≡◌, refl, sym, ap, ◌∙◌, subst}
 use mathlib.Core.List.{List, [], ◌∷◌, map, foldl}
 use Rattle.plain.specs.Lists.{count_up, up_to}
@@ -30,6 +30,30 @@ module _ {A : Type 0} (f : ℕ → A → A) (m : A) where
 
     pub finish : (len : ℕ) → k ≤ len → len ≤ k → x ≡ times len f m
     finish len a b = subst (λ (c : ℕ). x ≡ times c f m) (omega arith) h.same
+
+-- ---- the goals of a loop whose invariant is the fold itself: one turn more, of a loop that counts up, of one that begins at `from`, and of one that counts
+-- down from `size` and has come to i
+
+pub times_next : {A : Type 0} (f : ℕ → A → A) (m : A) (k : ℕ) → times (k + 1) f m ≡ f k (times k f m)
+times_next f m k = rw add-one (times_more f m k)
+
+pub times_after : {A : Type 0} (f : ℕ → A → A) (m : A) (from p : ℕ) → from ≤ p
+    → times (p + 1 - from) (λ t. f (from + t)) m ≡ f p (times (p - from) (λ t. f (from + t)) m)
+times_after f m from p h =
+    let a : p + 1 - from ≡ suc (p - from) = omega arith in
+    let b : from + (p - from) ≡ p = omega arith in
+    rw a (times_more (λ t. f (from + t)) m (p - from) ∙ ap (λ q. f q (times (p - from) (λ t. f (from + t)) m)) b)
+
+pub times_back : {A : Type 0} (f : ℕ → A → A) (m : A) (size i : ℕ) → 0 < i → i ≤ size
+    → times (size - (i - 1)) f m ≡ f (size - i) (times (size - i) f m)
+times_back f m size i h l = let e : size - (i - 1) ≡ size - i + 1 = omega arith in rw e (times_next f m (size - i))
+
+pub back_again : (size i : ℕ) → 0 < i → i ≤ size → size - 1 - (size - i) ≡ i - 1
+back_again size i h l = omega arith
+
+pub ruleset turns = (times_none, times_next)
+
+pub ruleset turns_back = (times_none, times_back, back_again, sub_self, sub-zero)
 
 -- ---- what every turn keeps
 

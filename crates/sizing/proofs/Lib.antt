@@ -1,5 +1,4 @@
 -- The modules of `sizing` that belong to no one function.
-pub mod Steps
 pub mod Counting
 pub mod Marks
 pub mod Measuring

@@ -4,7 +4,7 @@ use Rattle.std.proofs.Common.{◌≡◌, ℕ, ◌+◌, ◌-◌, ◌^◌, ◌<◌
 use mathlib.Core.List.{foldl}
 use Rattle.plain.proofs.Logic.{cond_has, either}
 use Rattle.plain.proofs.Members.{member_here, member_there}
-use Rattle.plain.proofs.Turns.{times_fold}
+use Rattle.plain.proofs.Turns.{times_fold, times_keeps}
 use Rattle.plain.specs.Lists.{member}
 use Rattle.plain.specs.Members.{Distinct, In}
 use Rattle.plain.specs.Turns.{entries, times}
@@ -14,10 +14,49 @@ use Rattle.cells.proofs.Rows.{clipped_part}
 use Rattle.cells.proofs.Slices.{same?, split}
 use Rattle.cells.specs.Layout.{DEGREE, ELEN, NV, PE, W}
 use Rattle.cells.specs.Rows.{clipped}
+use Rattle.cells.specs.Space.{Space}
 use Rattle.cells.specs.View.{Room, at, rd, up}
 use Rattle.sizing.specs.Counters.{begun, counted, lessened, passing}
 use Rattle.sizing.specs.Sizes.{Kept, Listed}
 use Rattle.sizing.specs.Model.{sized_all, sized_at, sized_element, sized_first, sized_list, sized_of, sized_part, sized_row}
+
+-- ---- what a mark leaves as it is stays, whatever is marked
+
+module _ (n : ℕ) (P : List ℤ → Type 0) (put : (s : List ℤ) (e v : ℕ) → P s → P (up n W s e v)) where
+  module _ (weight flag : ℕ) where
+    marked_first : (x : ℕ) (s : List ℤ) → P s → P (sized_first n weight flag x s)
+    unfolding sized_first
+    marked_first x s h = cond_has P (ltb (rd n DEGREE s x + (flag - weight)) (2 ^ 63)) (λ a. put s x (rd n DEGREE s x + (flag - weight)) h) (λ a. h)
+
+    marked_element : (x : ℕ) (s : List ℤ) → P s → P (sized_element n weight flag x s)
+    unfolding sized_element
+    marked_element x s h =
+        cond_has P (leb flag (rd n W s x)) (λ a. put s x (rd n W s x - weight) h) (λ a. cond_has P (ltb 0 (rd n W s x)) (λ b. marked_first x s h) (λ b. h))
+
+  module _ (l : List ℤ) (flag : ℕ) where
+    marked_part : (weight p k : ℕ) (s : List ℤ) → P s → P (sized_part n l weight flag p k s)
+    unfolding sized_part sized_at
+    marked_part weight p k s h =
+        times_keeps (λ _ t. P t) (λ t. sized_at n l weight flag (p + t)) k (λ j t _ g. marked_element weight flag (at l (p + j)) t g) k s (omega arith) h
+
+    marked_of : (i : ℕ) (s : List ℤ) → P s → P (sized_of n l flag i s)
+    unfolding sized_of sized_list
+    marked_of i s h =
+        let weight = rd n NV s i in
+        let p = rd n PE s i in
+        let k = rd n ELEN s i in
+        cond_has P (leb (p + k) (length l)) (λ a. cond_has P (leb weight flag) (λ b. marked_part weight p k s h) (λ b. h)) (λ a. h)
+
+    marked_turns : (from k : ℕ) (s : List ℤ) → P s → P (times k (λ t. sized_row n l flag (from + t)) s)
+    unfolding sized_row
+    marked_turns from k s h = times_keeps (λ _ t. P t) (λ t. sized_row n l flag (from + t)) k (λ j t _ g. marked_of (at l (from + j)) t g) k s (omega arith) h
+
+-- so does a weight: the one that a turn adds is that of the memory before the loop
+pub weight_stays : (m x : Space) (flag from k q : ℕ) → x ≡ record m { scratch = times k (λ t. sized_row m.n m.lists flag (from + t)) m.scratch }
+    → rd x.n NV x.scratch (at x.lists q) ≡ rd m.n NV m.scratch (at m.lists q)
+weight_stays m x flag from k q e =
+    let i = at m.lists q in
+    rw e (marked_turns m.n (λ t. rd m.n NV t i ≡ rd m.n NV m.scratch i) (λ t e v h. rd_up_field m.n W NV t e v i refl ∙ h) m.lists flag from k m.scratch refl)
 
 module _ (n : ℕ) where
   pub kept_none : (s : List ℤ) → Room n s → Kept n s s
@@ -41,19 +80,14 @@ module _ (n : ℕ) where
         room = room_up n W s e v r;
       }
 
+  kept_put : (s t : List ℤ) (e v : ℕ) → Kept n s t → Kept n s (up n W t e v)
+  kept_put s t e v k = kept_more s t (up n W t e v) k (kept_up t e v k.room)
+
   -- ---- one element
 
   module _ (weight flag : ℕ) where
-    kept_first : (x : ℕ) (s : List ℤ) → Room n s → Kept n s (sized_first n weight flag x s)
-    unfolding sized_first
-    kept_first x s r = cond_has (Kept n s) (ltb (rd n DEGREE s x + (flag - weight)) (2 ^ 63)) (λ a. kept_up s x (rd n DEGREE s x + (flag - weight)) r) (λ a. kept_none s r)
-
     pub kept_element_lem : (x : ℕ) (s : List ℤ) → Room n s → Kept n s (sized_element n weight flag x s)
-    unfolding sized_element
-    kept_element_lem x s r =
-        cond_has (Kept n s) (leb flag (rd n W s x))
-        (λ a. kept_up s x (rd n W s x - weight) r)
-        (λ a. cond_has (Kept n s) (ltb 0 (rd n W s x)) (λ b. kept_first x s r) (λ b. kept_none s r))
+    kept_element_lem x s r = marked_element n (Kept n s) (kept_put s) weight flag x s (kept_none s r)
 
     -- another mark
     apart_first : (x e : ℕ) (s : List ℤ) → e ≢ x → rd n W (sized_first n weight flag x s) e ≡ rd n W s e
@@ -114,12 +148,6 @@ module _ (n : ℕ) where
     abbrev part_fold : List ℤ → List ℕ → List ℤ
     part_fold s es = foldl (λ a x. sized_element n weight flag x a) s es
 
-    kept_part_lem : (es : List ℕ) (s : List ℤ) → Room n s → Kept n s (part_fold s es)
-    kept_part_lem [] s r = kept_none s r
-    kept_part_lem (x ∷ es) s r =
-        let a = kept_element_lem x s r in
-        kept_more s (sized_element n weight flag x s) (part_fold (sized_element n weight flag x s) es) a (kept_part_lem es (sized_element n weight flag x s) a.room)
-
     -- one more at the front
     part_more : (e x : ℕ) (es : List ℕ) (s : List ℤ) (m : ℕ) → Room n s → member x es ≡ false → (e ≡ x) ⊎ (e ≢ x)
         → m ≡ cond (member e es) (lessened flag weight (rd n DEGREE (sized_element n weight flag x s) e) (rd n W (sized_element n weight flag x s) e)) (rd n W (sized_element n weight flag x s) e)
@@ -175,29 +203,12 @@ module _ (n : ℕ) (l : List ℤ) (flag : ℕ) where
       ∙ ap (λ (j : ℕ). foldl (λ a i. sized_of n l flag i a) s (entries (at l) from j)) (clipped_part (length l) from k b)
       ∙ ap (foldl (λ a i. sized_of n l flag i a) s) h
 
-  kept_list : (weight p k : ℕ) (s : List ℤ) → Room n s → Kept n s (sized_list n l weight flag p k s)
-  unfolding sized_list
-  kept_list weight p k s r =
-      cond_has (Kept n s) (leb (p + k) (length l))
-      (λ a. cond_has (Kept n s) (leb weight flag) (λ b. rw (part_fold_lem weight p k s) (kept_part_lem n weight flag (entries (at l) p k) s r)) (λ b. kept_none n s r))
-      (λ a. kept_none n s r)
-
   kept_of : (i : ℕ) (s : List ℤ) → Room n s → Kept n s (sized_of n l flag i s)
-  unfolding sized_of
-  kept_of i s r = kept_list (rd n NV s i) (rd n PE s i) (rd n ELEN s i) s r
-
-  kept_rows : (new : List ℕ) (s : List ℤ) → Room n s → Kept n s (foldl (λ a i. sized_of n l flag i a) s new)
-  kept_rows [] s r = kept_none n s r
-  kept_rows (i ∷ new) s r =
-      let a = kept_of i s r in
-      kept_more n s (sized_of n l flag i s) (foldl (λ a i. sized_of n l flag i a) (sized_of n l flag i s) new) a (kept_rows new (sized_of n l flag i s) a.room)
-
-  pub kept_turns : (from k : ℕ) (s : List ℤ) → Room n s → Kept n s (times k (λ t. sized_row n l flag (from + t)) s)
-  kept_turns from k s r = rw (turns_fold from k s) (kept_rows (entries (at l) from k) s r)
+  kept_of i s r = marked_of n (Kept n s) (kept_put n s) l flag i s (kept_none n s r)
 
   pub kept_all_lem : (from k : ℕ) (s : List ℤ) → Room n s → Kept n s (sized_all n l flag from k s)
   unfolding sized_all
-  kept_all_lem from k s r = kept_turns from (clipped (length l) from k) s r
+  kept_all_lem from k s r = marked_turns n (Kept n s) (kept_put n s) l flag from (clipped (length l) from k) s (kept_none n s r)
 
   module _ (s : List ℤ) (E : ℕ → List ℕ) (e : ℕ) where
     mark_of : (t : List ℤ) → Kept n s t → (i : ℕ) → rd n NV s i ≤ flag → (0 < rd n ELEN s i → rd n PE s i + rd n ELEN s i ≤ length l) → entries (at l) (rd n PE s i) (rd n ELEN s i) ≡ E i → Distinct (E i)

@@ -1,92 +1,104 @@
 // Step 3 of the elimination: the external sizes of the elements that the rows of the new element have, by counters in the marks. A mark at the flag or above
 // is a counter: the flag, and what is left of the element's weight. A mark below it is no counter yet; 0 is an element that is no more.
-// Nothing here asks for a memory that makes sense, but for rows in the list space: a contract is the function's own model, and the laws of `proofs/` say what it finds.
+// Nothing here asks for a memory that makes sense: a contract is the function's own model, and the laws of `proofs/` say what it finds.
 #![tactic(auto)]
 
 ghost use Rattle.std.specs.Prelude.{◌≡◌, ◌+◌, ◌^◌, ◌<◌, ◌≤◌, length};
 ghost use Rattle.cells.specs.Layout.{NV};
-ghost use Rattle.cells.specs.View.{Room, at, rd};
-ghost use Rattle.cells.specs.Rows.{Rows};
+ghost use Rattle.cells.specs.View.{at, rd};
 ghost use Rattle.sizing.specs.Model.{sized_first, sized_element, sized_at, sized_part, sized_list, sized_row, sized_all, fitted, weighed_rows};
 
+use cells::{Field, Memory};
+
+// What a row takes from the counters of its elements: its weight, which is not above the flag.
+#[derive(Clone, Copy)]
+pub struct Charge {
+    pub weight: usize,
+    pub flag: usize,
+    ghost light: { weight ≤ flag },
+    ghost small: { flag < 2 ^ 63 },
+}
+
 // The counter of `e` begins at its weight, and loses that of the first row. Where that is no number of a cell, nothing is done.
-pub fn size_first(s: &mut [i64], n: usize, e: usize, weight: usize, flag: usize)
-    requires { Room n s.old × (e < n) × (weight ≤ flag) × (flag < 2 ^ 63) }
-    ensures { (s.new ≡ sized_first n weight flag e s.old) × Room n s.new }
+#[tactic(auto, unfolding(crate::specs::Model::sized_first))]
+pub fn size_first(m: &mut Memory, e: usize, charge: Charge)
+    requires { e < m.old.n }
+    ensures { m.new ≡ record m.old { scratch = sized_first m.old.n charge.weight charge.flag e m.old.scratch } }
 {
-    let d = cells::get(s, n, cells::DEGREE, e);
-    let left = d + (flag - weight);
+    let d = m.get(Field::Degree, e);
+    let left = d + (charge.flag - charge.weight);
     if left < 0x8000_0000_0000_0000 {
-        cells::set(s, n, cells::W, e, left);
+        m.set(Field::W, e, left);
     }
 }
 
 // A row of this weight has the element `e`.
-pub fn size_element(s: &mut [i64], n: usize, e: usize, weight: usize, flag: usize)
-    requires { Room n s.old × (e < n) × (weight ≤ flag) × (flag < 2 ^ 63) }
-    ensures { (s.new ≡ sized_element n weight flag e s.old) × Room n s.new }
+#[tactic(auto, unfolding(crate::specs::Model::sized_element))]
+pub fn size_element(m: &mut Memory, e: usize, charge: Charge)
+    requires { e < m.old.n }
+    ensures { m.new ≡ record m.old { scratch = sized_element m.old.n charge.weight charge.flag e m.old.scratch } }
 {
-    let mark = cells::get(s, n, cells::W, e);
-    if flag <= mark {
-        cells::set(s, n, cells::W, e, mark - weight);
+    let mark = m.get(Field::W, e);
+    if charge.flag <= mark {
+        m.set(Field::W, e, mark - charge.weight);
     } else if 0 < mark {
-        size_first(s, n, e, weight, flag);
+        size_first(m, e, charge);
     }
 }
 
 // The same of the element in cell `q` of the lists.
-pub fn size_at(lists: &[i64], s: &mut [i64], n: usize, q: usize, weight: usize, flag: usize)
-    requires { Room n s.old × Rows n lists.now × (q < length lists.now) × (weight ≤ flag) × (flag < 2 ^ 63) }
-    ensures { (s.new ≡ sized_at n lists.now weight flag q s.old) × Room n s.new }
+#[tactic(auto, unfolding(crate::specs::Model::sized_at))]
+pub fn size_at(m: &mut Memory, q: usize, charge: Charge)
+    requires { q < length m.old.lists }
+    ensures { m.new ≡ record m.old { scratch = sized_at m.old.n m.old.lists charge.weight charge.flag q m.old.scratch } }
 {
-    let e = cells::row(lists, n, q);
-    size_element(s, n, e, weight, flag);
+    let e = m.row(q);
+    size_element(m, e, charge);
 }
 
 // The same of each of the `k` elements from `p` on.
-pub fn size_elements(
-    lists: &[i64],
-    s: &mut [i64],
-    n: usize,
-    p: usize,
-    k: usize,
-    weight: usize,
-    flag: usize,
-)
-    requires { Room n s.old × Rows n lists.now × (p + k ≤ length lists.now) × (weight ≤ flag) × (flag < 2 ^ 63) }
-    ensures { (s.new ≡ sized_part n lists.now weight flag p k s.old) × Room n s.new }
+#[tactic(auto, unfolding(plain::specs::Turns::times, cells::specs::Rows::clipped, crate::specs::Model::sized_part))]
+pub fn size_elements(m: &mut Memory, p: usize, k: usize, charge: Charge)
+    requires { p + k ≤ length m.old.lists }
+    ensures { m.new ≡ record m.old { scratch = sized_part m.old.n m.old.lists charge.weight charge.flag p k m.old.scratch } }
 {
-    for t in 0..k {
-        size_at(lists, s, n, p + t, weight, flag);
+    for t in 0..m.clip(p, k) {
+        size_at(m, p + t, charge);
     }
 }
 
 // The same, if all of them are there and the weight is not above the flag: asked once for all of them.
-fn size_list(lists: &[i64], s: &mut [i64], n: usize, p: usize, k: usize, weight: usize, flag: usize)
-    requires { Room n s.old × Rows n lists.now × (p < 2 ^ 63) × (k < 2 ^ 63) × (flag < 2 ^ 63) }
-    ensures { (s.new ≡ sized_list n lists.now weight flag p k s.old) × Room n s.new }
+#[tactic(auto, unfolding(crate::specs::Model::sized_list))]
+fn size_list(m: &mut Memory, p: usize, k: usize, weight: usize, flag: usize)
+    requires start { p < 2 ^ 63 }
+    requires count { k < 2 ^ 63 }
+    requires small { flag < 2 ^ 63 }
+    ensures { m.new ≡ record m.old { scratch = sized_list m.old.n m.old.lists weight flag p k m.old.scratch } }
 {
-    if p + k <= lists.len() {
-        if weight <= flag {
-            size_elements(lists, s, n, p, k, weight, flag);
-        }
+    if p + k <= m.size() && weight <= flag {
+        size_elements(m, p, k, Charge { weight, flag });
     }
 }
 
 // The elements of the row in cell `q` of the lists. The result is the row's weight.
-pub fn size_row(lists: &[i64], s: &mut [i64], n: usize, q: usize, flag: usize) -> usize
-    requires { Room n s.old × Rows n lists.now × (q < length lists.now) × (flag < 2 ^ 63) }
-    ensures { (result ≡ rd n NV s.old (at lists.now q)) × (s.new ≡ sized_row n lists.now flag q s.old) × Room n s.new × (result < 2 ^ 63) }
+#[tactic(auto, unfolding(crate::specs::Model::sized_row, crate::specs::Model::sized_of))]
+pub fn size_row(m: &mut Memory, q: usize, flag: usize) -> usize
+    requires cell { q < length m.old.lists }
+    requires small { flag < 2 ^ 63 }
+    ensures sized { m.new ≡ record m.old { scratch = sized_row m.old.n m.old.lists flag q m.old.scratch } }
+    ensures weight { result ≡ rd m.old.n NV m.old.scratch (at m.old.lists q) }
+    ensures small { result < 2 ^ 63 }
 {
-    let i = cells::row(lists, n, q);
-    let weight = cells::look(s, n, cells::NV, i);
-    let p = cells::get(s, n, cells::PE, i);
-    let k = cells::get(s, n, cells::ELEN, i);
-    size_list(lists, s, n, p, k, weight, flag);
+    let i = m.row(q);
+    let weight = m.get(Field::Nv, i);
+    let p = m.get(Field::Pe, i);
+    let k = m.get(Field::Elen, i);
+    size_list(m, p, k, weight, flag);
     weight
 }
 
 // A sum that is a number of a cell; any other one makes no sense, and counts as 0.
+#[tactic(auto, unfolding(crate::specs::Model::fitted))]
 fn fit(sum: usize) -> usize
     ensures { (result ≡ fitted sum) × (result < 2 ^ 63) }
 {
@@ -94,15 +106,17 @@ fn fit(sum: usize) -> usize
 }
 
 // Those of each of the `k` rows from `from` on: the rows of the new element. The result is their weight.
-pub fn size_all(lists: &[i64], s: &mut [i64], n: usize, from: usize, k: usize, flag: usize) -> usize
-    requires { Room n s.old × Rows n lists.now × (flag < 2 ^ 63) }
-    ensures { (result ≡ weighed_rows n lists.now s.old from k) × (s.new ≡ sized_all n lists.now flag from k s.old) × Room n s.new × (result < 2 ^ 63) }
+#[tactic(auto, unfolding(plain::specs::Turns::times, cells::specs::Rows::clipped, crate::specs::Model::sized_all, crate::specs::Model::weighed_rows))]
+pub fn size_all(m: &mut Memory, from: usize, k: usize, flag: usize) -> usize
+    requires { flag < 2 ^ 63 }
+    ensures sized { m.new ≡ record m.old { scratch = sized_all m.old.n m.old.lists flag from k m.old.scratch } }
+    ensures weight { result ≡ weighed_rows m.old.n m.old.lists m.old.scratch from k }
+    ensures small { result < 2 ^ 63 }
 {
-    let mut sum = 0;
-    let there = cells::clip(lists.len(), from, k);
-    for t in 0..there {
-        let weight = size_row(lists, s, n, from + t, flag);
-        sum = std::num::wrapping_add_usize(sum, weight);
+    let mut sum: usize = 0;
+    for t in 0..m.clip(from, k) {
+        let weight = size_row(m, from + t, flag);
+        sum = sum.wrapping_add(weight);
     }
     fit(sum)
 }

@@ -1,7 +1,7 @@
 -- The laws behind the proofs of `text`.
-pub mod Steps
 pub mod Signs
 pub mod Walks
 pub mod Counts
 pub mod Parts
 pub mod Inputs
+pub mod Spaces

@@ -1,20 +1,13 @@
--- A number with its sign, through its bits.
+-- A number with its sign.
 -- Assumes nothing.
-use Prim.Native.Nat.{ℕ, zero, suc, ◌-◌, ◌<◌, ◌≤◌, ◌^◌}
+use Prim.Native.Nat.{ℕ, zero, suc, ◌-◌, ◌≤◌}
 use native.Mathlib.Omega.{arith}
-use mathlib.Core.Path.{◌≡◌, ap, ◌∙◌}
+use mathlib.Core.Path.{◌≡◌, ap}
 use mathlib.Core.Bool.{Bool, true, false}
 use borrow.Author.Tests.{lt-ltb}
-use lib.IntN.{ℤ, pos, negsuc, ◌-ℤ◌}
+use lib.IntN.{pos, negsuc, ◌-ℤ◌}
 use lib.Signed.{mag}
-use mir.Syntax.{w32}
-use mir.Val.{to_z, of_z}
-use mir.Facts.{to_z-of_z}
 use Rattle.text.specs.Numerals.{signed}
-
--- what a local holds is what was put there
-pub back : (x z : ℤ) → x ≡ z → mag z < 2 ^ 31 → to_z w32 (of_z w32 x) ≡ z
-back x z e h = ap (λ (y : ℤ). to_z w32 (of_z w32 y)) e ∙ to_z-of_z {w = w32} (record { sfits = h })
 
 minus_is : (v : ℕ) → pos 0 -ℤ pos (suc v) ≡ negsuc v
 minus_is v =

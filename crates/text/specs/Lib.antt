@@ -1,2 +1,3 @@
 -- What the contracts of `text` cite.
 pub mod Numerals
+pub mod Printed

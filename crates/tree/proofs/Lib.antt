@@ -1,5 +1,4 @@
 -- The modules of `tree` that belong to no one function.
-pub mod Steps
 pub mod Sheet
 pub mod Touring
 pub mod Threads

@@ -13,7 +13,6 @@ use Rattle.tree.proofs.Grove.{full, grown, whole_is, whole_permutation}
 use Rattle.tree.proofs.Owners.{Owned, owned_all_lem}
 use Rattle.tree.proofs.Prepared.{kin, prepared_lists, prepared_room}
 use Rattle.tree.proofs.Sheet.{Sheet, sheet_rows, sheet_places}
-use Rattle.tree.proofs.Steps.{order_is}
 use Rattle.tree.proofs.Touring.{walked_all}
 
 module _ (n : ℕ) (s : List ℤ) (g : Graph) (rank : ℕ → ℕ) (ms : List ℕ) (small : n < 2 ^ 31) (start : Final n s g ms) (end : Ended n g rank)
@@ -32,6 +31,10 @@ module _ (n : ℕ) (s : List ℤ) (g : Graph) (rank : ℕ → ℕ) (ms : List �
 
   pub inverse_written : (ordered n (length ms) s (sheets permutation inverse)).inverse ≡ map pos (inverse_of (permutation_of g))
   inverse_written = sheet_places n (permutation_of g) (ordered n (length ms) s (sheets permutation inverse)) sheet (whole_permutation n g rank end)
+
+order_is : (n k : ℕ) (s a b : List ℤ) (o r : Sheets) → a ≡ owned_all n k s → b ≡ prepared n a → r ≡ walked n b o → r ≡ ordered n k s o
+unfolding ordered
+order_is n k s a b o r ha hb hr = rw (hr, hb, ha)
 
 -- the three parts of the code, one after the other
 pub outputs : (n k : ℕ) (s a b p i p' i' : List ℤ) → a ≡ owned_all n k s → b ≡ prepared n a → sheets p' i' ≡ walked n b (sheets p i) → n < 2 ^ 31 → Outputs n k s p i p' i'

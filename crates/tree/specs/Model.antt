@@ -1,7 +1,7 @@
 -- What the code after the elimination does, as functions of the memory: owners of merged rows, the lists of what hangs under each row, and the walk that
 -- writes the permutation and its inverse. The rows without a parent hang under n, which is no row.
 -- Assumes nothing.
-use Rattle.std.specs.Prelude.{ℕ, ◌-◌, ◌*◌, ◌<◌, ◌^◌, Bool, false, cond, List, ltb, leb, eqb, ℤ}
+use Rattle.std.specs.Prelude.{ℕ, ◌-◌, ◌*◌, Bool, false, cond, List, ltb, leb, eqb, ℤ}
 use Rattle.plain.specs.Turns.{times}
 use Rattle.cells.specs.Layout.{ELEN, MERGES, NV, SIBLING, LARGEST, STACK, FIRST}
 use Rattle.cells.specs.Links.{named, linked, parent, hang}
@@ -93,12 +93,6 @@ pub record Tour : Type 0 where
 
 abbrev pub tour : List ℤ → List ℤ → List ℤ → Walk → Tour
 tour s p i w = record { mem = s; out = sheets p i; st = w }
-
--- each number of a walk is small
-pub record Small (w : Walk) : Type 0 where
-  pub row : w.row < 2 ^ 63
-  pub depth : w.depth < 2 ^ 63
-  pub done : w.done < 2 ^ 63
 
 -- the row goes on the stack, and what hangs under it comes next
 unfoldable pub deeper : ℕ → List ℤ → Walk → Walk

@@ -3,287 +3,308 @@
 // The roots, and behind them the dense rows, hang under n, which is no row.
 #![tactic(auto)]
 
-ghost use Rattle.std.specs.Prelude.{◌≡◌, ◌<◌, ◌≤◌, ◌^◌};
-ghost use Rattle.cells.specs.Links.{linked, parent};
-ghost use Rattle.cells.specs.View.{Room, rd, up};
+ghost use Rattle.std.specs.Prelude.{◌≡◌, ◌<◌, ◌^◌};
+ghost use Rattle.cells.specs.Space.{SameLists};
+ghost use Rattle.cells.specs.View.{up, plus};
+ghost use Rattle.tree.specs.Class.{class_number};
 ghost use Rattle.tree.specs.Final.{Outputs};
-ghost use Rattle.tree.specs.Model.{above, owned, owned_all, blank_one, blanked, as_large, measured_under, measured_one, measured, largest_of, class_of, listed, threaded_one, threaded, prepared, sheets, placed, tour, Small, deeper, top, higher, stepped, walked};
+ghost use Rattle.tree.specs.Model.{above, owned, owned_all, blank_one, blanked, as_large, measured_under, measured_one, measured, largest_of, class_of, listed, threaded_one, threaded, prepared, sheets, placed, tour, deeper, top, higher, stepped, walked};
+
+use cells::{Field, Memory};
 
 // ---- owners
 
 // What row `i` hangs under: its parent, or `n`.
-fn above(s: &[i64], n: usize, i: usize) -> usize
-    requires { Room n s.now }
-    ensures { (result ≡ above n s.now i) × (result < 2 ^ 63) }
+#[tactic(auto, unfolding(crate::specs::Model::above))]
+fn above(m: &Memory, i: usize) -> usize
+    ensures value { result ≡ above m.now.n m.now.scratch i }
+    ensures small { result < 2 ^ 63 }
 {
-    cells::parent(s, n, i)
+    m.parent(i).unwrap_or(m.columns())
 }
 
 // A row that was merged into a merged row gets that row's parent.
-fn own_one(s: &mut [i64], n: usize, v: usize)
-    requires { Room n s.old }
-    ensures { (s.new ≡ owned n v s.old) × Room n s.new }
+#[tactic(auto, unfolding(crate::specs::Model::owned, crate::specs::Model::above))]
+fn own_one(m: &mut Memory, v: usize)
+    ensures { m.new ≡ record m.old { scratch = owned m.old.n v m.old.scratch } }
 {
-    let p = above(s, n, v);
-    if cells::tab(s, n, cells::NV, p) == 0 {
-        let e = above(s, n, p);
-        cells::put_parent(s, n, v, e);
+    let p = above(m, v);
+    if m.rd(Field::Nv, p) == 0 {
+        let e = m.parent(p);
+        m.put_parent(v, e);
     }
 }
 
-// The same of row `t` of the log.
-fn own_at(s: &mut [i64], n: usize, t: usize)
-    requires { Room n s.old }
-    ensures { (s.new ≡ owned n (rd n 13 s.old t) s.old) × Room n s.new }
-{
-    let v = cells::tab(s, n, cells::MERGES, t);
-    own_one(s, n, v);
-}
-
 // The rows of the log, the last first: what a row was merged into has found its element before it.
-fn own_all(s: &mut [i64], n: usize, count: usize)
-    requires { Room n s.old }
-    ensures { (s.new ≡ owned_all n count s.old) × Room n s.new }
+#[tactic(auto, using(plain::proofs::Turns::turns_back), unfolding(crate::specs::Model::owned_all))]
+fn own_all(m: &mut Memory, count: usize)
+    ensures { m.new ≡ record m.old { scratch = owned_all m.old.n count m.old.scratch } }
 {
-    for t in 0..count {
-        own_at(s, n, count - 1 - t);
+    for t in (0..count).rev() {
+        let v = m.rd(Field::Merges, t);
+        own_one(m, v);
     }
 }
 
 // ---- the largest child
 
 // Nothing hangs under `j`.
-fn blank_one(s: &mut [i64], n: usize, j: usize)
-    requires { Room n s.old × (n < 2 ^ 31) }
-    ensures { (s.new ≡ blank_one n j s.old) × Room n s.new }
+#[tactic(auto, unfolding(crate::specs::Model::blank_one))]
+fn blank_one(m: &mut Memory, j: usize)
+    ensures { m.new ≡ record m.old { scratch = blank_one m.old.n j m.old.scratch } }
 {
-    cells::put_column(s, n, j, n);
-    cells::put(s, n, cells::LARGEST, j, n);
+    let n = m.columns();
+    m.put_column(j, n);
+    m.up(cells::LARGEST, j, n);
 }
 
-fn blank(s: &mut [i64], n: usize)
-    requires { Room n s.old × (n < 2 ^ 31) }
-    ensures { (s.new ≡ blanked n s.old) × Room n s.new }
+#[tactic(auto, using(plain::proofs::Turns::turns), unfolding(crate::specs::Model::blanked))]
+fn blank(m: &mut Memory)
+    ensures { m.new ≡ record m.old { scratch = blanked m.old.n m.old.scratch } }
 {
-    cells::put_column(s, n, n, n);
+    let n = m.columns();
+    m.put_column(n, n);
     for j in 0..n {
-        blank_one(s, n, j);
+        blank_one(m, j);
     }
 }
 
 // Is `j` not smaller than `b`?
-fn as_large(s: &[i64], n: usize, b: usize, j: usize) -> bool
-    requires { Room n s.now }
-    ensures { result ≡ as_large n s.now b j }
+#[tactic(auto, unfolding(crate::specs::Model::as_large))]
+fn as_large(m: &Memory, b: usize, j: usize) -> bool
+    ensures { result ≡ as_large m.now.n m.now.scratch b j }
 {
-    let x = cells::rd(s, n, cells::ELEN, b);
-    let y = cells::rd(s, n, cells::ELEN, j);
-    x <= y
+    m.rd(Field::Elen, b) <= m.rd(Field::Elen, j)
 }
 
 // `j` is the largest child of `p` so far, if it is not smaller than the one before.
-fn measure_under(s: &mut [i64], n: usize, p: usize, j: usize)
-    requires { Room n s.old × (j < 2 ^ 63) }
-    ensures { (s.new ≡ measured_under n p j s.old) × Room n s.new }
+#[tactic(auto, unfolding(crate::specs::Model::measured_under))]
+fn measure_under(m: &mut Memory, p: usize, j: usize)
+    requires { j < 2 ^ 63 }
+    ensures { m.new ≡ record m.old { scratch = measured_under m.old.n p j m.old.scratch } }
 {
-    let b = cells::tab(s, n, cells::LARGEST, p);
-    if as_large(s, n, b, j) {
-        cells::put(s, n, cells::LARGEST, p, j);
+    let b = m.rd(cells::LARGEST, p);
+    if as_large(m, b, j) {
+        m.up(cells::LARGEST, p, j);
     }
 }
 
 // The same of an element and its parent.
-fn measure_one(s: &mut [i64], n: usize, j: usize)
-    requires { Room n s.old × (j < 2 ^ 63) }
-    ensures { (s.new ≡ measured_one n j s.old) × Room n s.new }
+#[tactic(auto, unfolding(crate::specs::Model::measured_one))]
+fn measure_one(m: &mut Memory, j: usize)
+    requires { j < 2 ^ 63 }
+    ensures { m.new ≡ record m.old { scratch = measured_one m.old.n j m.old.scratch } }
 {
-    if 0 < cells::tab(s, n, cells::NV, j) {
-        let p = above(s, n, j);
-        measure_under(s, n, p, j);
+    if 0 < m.rd(Field::Nv, j) {
+        let p = above(m, j);
+        measure_under(m, p, j);
     }
 }
 
 // The last of the largest children, of each element.
-fn measure(s: &mut [i64], n: usize)
-    requires { Room n s.old × (n < 2 ^ 31) }
-    ensures { (s.new ≡ measured n s.old) × Room n s.new }
+#[tactic(auto, using(plain::proofs::Turns::turns), unfolding(crate::specs::Model::measured))]
+fn measure(m: &mut Memory)
+    ensures { m.new ≡ record m.old { scratch = measured m.old.n m.old.scratch } }
 {
-    for j in 0..n {
-        measure_one(s, n, j);
+    for j in 0..m.columns() {
+        measure_one(m, j);
     }
 }
 
 // ---- what hangs under each
 
-// Is `j` the largest child of `p`?
-fn largest_of(s: &[i64], n: usize, p: usize, j: usize) -> bool
-    requires { Room n s.now }
-    ensures { result ≡ largest_of n s.now p j }
-{
-    if p < n {
-        cells::tab(s, n, cells::LARGEST, p) == j
-    } else {
-        false
-    }
+// Where a row stands among what hangs under the same one.
+#[derive(Clone, Copy, PartialEq, Eq)]
+enum Class {
+    // A merged or a dense row, which has no weight.
+    Light,
+    // The largest child of an element.
+    Largest,
+    // Any other element.
+    Other,
 }
 
-// 0 of a merged or a dense row, 1 of the largest child of an element, 2 of any other element.
-fn class_of(s: &[i64], n: usize, j: usize) -> usize
-    requires { Room n s.now }
-    ensures { result ≡ class_of n s.now j }
+// Is `j` the largest child of `p`?
+#[tactic(auto, unfolding(crate::specs::Model::largest_of))]
+fn largest_of(m: &Memory, p: usize, j: usize) -> bool
+    ensures { result ≡ largest_of m.now.n m.now.scratch p j }
 {
-    if 0 < cells::tab(s, n, cells::NV, j) {
-        let p = above(s, n, j);
-        if largest_of(s, n, p, j) { 1 } else { 2 }
+    p < m.columns() && m.get(cells::LARGEST, p) == j
+}
+
+// The class of `j`.
+#[tactic(auto, unfolding(crate::specs::Model::class_of))]
+fn class_of(m: &Memory, j: usize) -> Class
+    ensures { class_number result ≡ class_of m.now.n m.now.scratch j }
+{
+    if m.rd(Field::Nv, j) == 0 {
+        Class::Light
+    } else if largest_of(m, above(m, j), j) {
+        Class::Largest
     } else {
-        0
+        Class::Other
     }
 }
 
 // `j` becomes the first that hangs under `p`.
-fn list_under(s: &mut [i64], n: usize, p: usize, j: usize)
-    requires { Room n s.old × (j < 2 ^ 63) }
-    ensures { (s.new ≡ listed n p j s.old) × Room n s.new }
+#[tactic(auto, unfolding(crate::specs::Model::listed))]
+fn list_under(m: &mut Memory, p: usize, j: usize)
+    requires { j < 2 ^ 63 }
+    ensures { m.new ≡ record m.old { scratch = listed m.old.n p j m.old.scratch } }
 {
-    let first = cells::column(s, n, p);
-    cells::put(s, n, cells::SIBLING, j, first);
-    cells::put_column(s, n, p, j);
+    let first = m.column(p);
+    m.up(cells::SIBLING, j, first);
+    m.put_column(p, j);
 }
 
-// `j` becomes the first where it belongs, if it is of class `c`.
-fn thread_one(s: &mut [i64], n: usize, c: usize, j: usize)
-    requires { Room n s.old × (j < 2 ^ 63) }
-    ensures { (s.new ≡ threaded_one n c j s.old) × Room n s.new }
+// `j` becomes the first where it belongs, if it is of the class.
+#[tactic(auto, unfolding(crate::specs::Model::threaded_one))]
+fn thread_one(m: &mut Memory, class: Class, j: usize)
+    requires { j < 2 ^ 63 }
+    ensures { m.new ≡ record m.old { scratch = threaded_one m.old.n (class_number class) j m.old.scratch } }
 {
-    if class_of(s, n, j) == c {
-        let p = above(s, n, j);
-        list_under(s, n, p, j);
+    if class_of(m, j) == class {
+        let p = above(m, j);
+        list_under(m, p, j);
     }
 }
 
-// The rows of class `c`, the last first.
-fn thread(s: &mut [i64], n: usize, c: usize)
-    requires { Room n s.old × (n < 2 ^ 31) }
-    ensures { (s.new ≡ threaded n c s.old) × Room n s.new }
+// The rows of the class, the last first.
+#[tactic(auto, using(plain::proofs::Turns::turns_back), unfolding(crate::specs::Model::threaded))]
+fn thread(m: &mut Memory, class: Class)
+    ensures { m.new ≡ record m.old { scratch = threaded m.old.n (class_number class) m.old.scratch } }
 {
-    for k in 0..n {
-        thread_one(s, n, c, n - 1 - k);
+    for j in (0..m.columns()).rev() {
+        thread_one(m, class, j);
     }
 }
 
 // Under each: the other children, the largest, merged rows. Under `n`: the roots, the dense rows.
-fn prepare(s: &mut [i64], n: usize)
-    requires { Room n s.old × (n < 2 ^ 31) }
-    ensures { (s.new ≡ prepared n s.old) × Room n s.new }
+#[tactic(auto, unfolding(crate::specs::Model::prepared))]
+fn prepare(m: &mut Memory)
+    ensures { m.new ≡ record m.old { scratch = prepared m.old.n m.old.scratch } }
 {
-    blank(s, n);
-    measure(s, n);
-    thread(s, n, 0);
-    thread(s, n, 1);
-    thread(s, n, 2);
+    blank(m);
+    measure(m);
+    thread(m, Class::Light);
+    thread(m, Class::Largest);
+    thread(m, Class::Other);
 }
 
 // ---- the walk
 
 // The row that comes next, or one that is none; how many rows the stack has; how many have their place.
 #[derive(Clone, Copy)]
-pub struct Walk {
-    pub row: usize,
-    pub depth: usize,
-    pub done: usize,
+struct Walk {
+    row: usize,
+    depth: usize,
+    done: usize,
 }
 
-// Row `v` stands at place `k`.
+// One more, or the largest number that a cell holds.
+#[tactic(auto, unfolding(cells::specs::View::plus))]
+fn more(k: usize) -> usize
+    ensures { result ≡ plus k 1 }
+{
+    k.saturating_add(1).min(i64::MAX as usize)
+}
+
+// Row `v` stands at place `k`. The permutation and its inverse stay two slices: behind a `&mut` to a struct of both, a caller would know nothing of them
+// afterwards without a clause that names what each reference lends.
+#[tactic(auto, unfolding(crate::specs::Model::placed))]
 fn place(permutation: &mut [i32], inverse: &mut [i32], n: usize, k: usize, v: usize)
     requires { n < 2 ^ 31 }
     ensures { sheets permutation.new inverse.new ≡ placed n k v (sheets permutation.old inverse.old) }
 {
-    if k < n {
-        if v < n {
-            cells::put32(permutation, k, v);
-            cells::put32(inverse, v, k);
-        }
+    if k < n && v < n {
+        cells::put32(permutation, k, v);
+        cells::put32(inverse, v, k);
     }
 }
 
 // The row goes on the stack, and what hangs under it comes next.
-fn enter(s: &mut [i64], n: usize, w: Walk) -> Walk
-    requires { Room n s.old × Small w }
-    ensures { (s.new ≡ up n 10 s.old w.depth w.row) × (result ≡ deeper n s.old w) × Room n s.new × Small result }
+#[tactic(auto, unfolding(crate::specs::Model::deeper))]
+fn enter(m: &mut Memory, w: Walk) -> Walk
+    requires { w.row < 2 ^ 63 }
+    ensures pushed { m.new ≡ record m.old { scratch = up m.old.n 10 m.old.scratch w.depth w.row } }
+    ensures under { result ≡ deeper m.old.n m.old.scratch w }
 {
-    let first = cells::column(s, n, w.row);
-    cells::put(s, n, cells::STACK, w.depth, w.row);
+    let first = m.column(w.row);
+    m.up(cells::STACK, w.depth, w.row);
     Walk {
         row: first,
-        depth: cells::plus(w.depth, 1),
+        depth: more(w.depth),
         done: w.done,
     }
 }
 
 // The row that the stack has on top.
-fn top(s: &[i64], n: usize, w: Walk) -> usize
-    requires { Room n s.now }
-    ensures { (result ≡ top n s.now w) × (result < 2 ^ 63) }
+#[tactic(auto, unfolding(crate::specs::Model::top))]
+fn top(m: &Memory, w: Walk) -> usize
+    ensures value { result ≡ top m.now.n m.now.scratch w }
+    ensures small { result < 2 ^ 63 }
 {
-    cells::tab(s, n, cells::STACK, cells::less(w.depth, 1))
+    m.rd(cells::STACK, w.depth.saturating_sub(1))
 }
 
 // It leaves the stack, and the one behind it comes next.
-fn leave(s: &[i64], n: usize, w: Walk, v: usize) -> Walk
-    requires { Room n s.now × Small w × (v ≡ top n s.now w) }
-    ensures { (result ≡ higher n s.now w) × Small result }
+#[tactic(auto, unfolding(crate::specs::Model::higher))]
+fn leave(m: &Memory, w: Walk, v: usize) -> Walk
+    requires { v ≡ top m.now.n m.now.scratch w }
+    ensures { result ≡ higher m.now.n m.now.scratch w }
 {
     Walk {
-        row: cells::tab(s, n, cells::SIBLING, v),
-        depth: cells::less(w.depth, 1),
-        done: cells::plus(w.done, 1),
+        row: m.rd(cells::SIBLING, v),
+        depth: w.depth.saturating_sub(1),
+        done: more(w.done),
     }
 }
 
 // One step: down to what hangs under a row, or on from a row that has its place now.
-fn step(s: &mut [i64], n: usize, permutation: &mut [i32], inverse: &mut [i32], w: Walk) -> Walk
-    requires { Room n s.old × (n < 2 ^ 31) × Small w }
-    ensures { (tour s.new permutation.new inverse.new result ≡ stepped n (tour s.old permutation.old inverse.old w)) × Room n s.new × Small result }
+#[tactic(auto, unfolding(crate::specs::Model::stepped, crate::specs::Model::entered, crate::specs::Model::left_behind))]
+fn step(m: &mut Memory, permutation: &mut [i32], inverse: &mut [i32], w: Walk) -> Walk
+    requires { m.old.n < 2 ^ 31 }
+    ensures stepped { tour m.new.scratch permutation.new inverse.new result ≡ stepped m.old.n (tour m.old.scratch permutation.old inverse.old w) }
+    ensures lists { SameLists m.old m.new }
 {
+    let n = m.columns();
     if w.row < n {
-        enter(s, n, w)
+        enter(m, w)
     } else if 0 < w.depth {
-        let v = top(s, n, w);
+        let v = top(m, w);
         place(permutation, inverse, n, w.done, v);
-        leave(s, n, w, v)
+        leave(m, w, v)
     } else {
         w
     }
 }
 
 // From the first that hangs under `n`: each row is entered once and left once.
-fn walk_all(s: &mut [i64], n: usize, permutation: &mut [i32], inverse: &mut [i32])
-    requires { Room n s.old × (n < 2 ^ 31) }
-    ensures { sheets permutation.new inverse.new ≡ walked n s.old (sheets permutation.old inverse.old) }
+#[tactic(auto, using(plain::proofs::Turns::turns), unfolding(crate::specs::Model::walked))]
+fn walk_all(m: &mut Memory, permutation: &mut [i32], inverse: &mut [i32])
+    requires { m.old.n < 2 ^ 31 }
+    ensures written { sheets permutation.new inverse.new ≡ walked m.old.n m.old.scratch (sheets permutation.old inverse.old) }
+    ensures lists { SameLists m.old m.new }
 {
-    let first = cells::column(s, n, n);
+    let n = m.columns();
     let mut w = Walk {
-        row: first,
+        row: m.column(n),
         depth: 0,
         done: 0,
     };
-    for k in 0..2 * n {
-        w = step(s, n, permutation, inverse, w);
+    for _ in 0..2 * n {
+        w = step(m, permutation, inverse, w);
     }
 }
 
 // The permutation and its inverse of what the elimination left, its log of merges being `count` long.
-pub fn order_tree(
-    s: &mut [i64],
-    n: usize,
-    count: usize,
-    permutation: &mut [i32],
-    inverse: &mut [i32],
-)
-    requires { Room n s.old × (n < 2 ^ 31) }
-    ensures { Outputs n count s.old permutation.old inverse.old permutation.new inverse.new }
+#[tactic(auto, using(crate::proofs::Written::outputs))]
+pub fn order_tree(m: &mut Memory, count: usize, permutation: &mut [i32], inverse: &mut [i32])
+    requires { m.old.n < 2 ^ 31 }
+    ensures outputs { Outputs m.old.n count m.old.scratch permutation.old inverse.old permutation.new inverse.new }
+    ensures lists { SameLists m.old m.new }
 {
-    own_all(s, n, count);
-    prepare(s, n);
-    walk_all(s, n, permutation, inverse);
+    own_all(m, count);
+    prepare(m);
+    walk_all(m, permutation, inverse);
 }

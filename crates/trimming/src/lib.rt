@@ -3,13 +3,15 @@
 #![tactic(auto)]
 
 ghost use Rattle.std.specs.Prelude.{◌≡◌, ◌+◌, ◌^◌, ◌<◌, ◌≤◌, ◌&&◌, length, ◌==◌};
-ghost use Rattle.cells.specs.View.{Room, wr};
-ghost use Rattle.cells.specs.Rows.{Rows};
+ghost use Rattle.cells.specs.Space.{SameSize};
+ghost use Rattle.cells.specs.View.{wr};
 ghost use Rattle.trimming.specs.Model.{Grown, counted, keeping, kept_live, kept_element, kept_elements, kept_variable, kept_variables, kept_all, weighed, took_weight, buried, massed, turned, sized, lowered, key_of, keyed, relisted, settled, Few, trimming, updated, updated_at, updated_all};
+
+use cells::{Field, Memory};
 
 // ---- what is kept
 
-// Of a list: the place behind what is kept, the one behind the elements of it (once they are done), the sum of their sizes and weights, and the sum of their numbers.
+// Of a list: the place behind what is kept, the one behind its elements (once they are done), the sum of their sizes and weights, and that of their numbers.
 #[derive(Clone, Copy)]
 pub struct Kept {
     pub elements: usize,
@@ -18,98 +20,89 @@ pub struct Kept {
     pub sum: usize,
 }
 
+// How the elements of a list are kept: their marks count from `flag` on, and those at it are dropped into `me`, the new element, where that is aggressive.
+#[derive(Clone, Copy)]
+pub struct Rule {
+    pub me: usize,
+    pub flag: usize,
+    pub aggressive: bool,
+}
+
 // `x`, of this size, is kept.
+#[tactic(auto, unfolding(crate::specs::Model::counted, cells::specs::View::wrapped))]
 pub fn count(x: usize, size: usize, k: Kept) -> Kept
     requires { k.end < 2 ^ 62 }
-    ensures { (result ≡ counted x size k) × Grown k result }
+    ensures counted { result ≡ counted x size k }
+    ensures grown { Grown k result }
 {
-    let d = std::num::wrapping_add_usize(k.deg, size);
-    let t = std::num::wrapping_add_usize(k.sum, x);
     Kept {
-        elements: k.elements,
         end: k.end + 1,
-        deg: d,
-        sum: t,
+        deg: k.deg.wrapping_add(size),
+        sum: k.sum.wrapping_add(x),
+        ..k
     }
 }
 
 // Row `x` goes to the cell behind what is kept, and is counted.
-pub fn keep_entry(lists: &mut [i64], n: usize, x: usize, size: usize, k: Kept) -> Kept
-    requires { Rows n lists.old × (x < n) × (x < 2 ^ 63) × (k.end < length lists.old) }
-    ensures { (lists.new ≡ wr lists.old k.end x) × Rows n lists.new × (result ≡ counted x size k) × Grown k result }
+pub fn keep_entry(m: &mut Memory, x: usize, size: usize, k: Kept) -> Kept
+    requires { (x < m.old.n) × (k.end < length m.old.lists) }
+    ensures put { m.new ≡ record m.old { lists = wr m.old.lists k.end x } }
+    ensures size { length m.new.lists ≡ length m.old.lists }
+    ensures counted { result ≡ counted x size k }
+    ensures grown { Grown k result }
 {
-    cells::put_row(lists, n, k.end, x);
+    prove!(k.end < m.size());
+    m.put_row(k.end, x);
     count(x, size, k)
 }
 
-// Is an element of mark `w` dropped, though it is there?
-pub fn swallows(w: usize, flag: usize, aggressive: bool) -> bool
-    ensures { result ≡ (aggressive && w == flag) }
-{
-    if aggressive { w == flag } else { false }
+impl Rule {
+    // Is an element of mark `w` dropped, though it is there?
+    pub fn swallows(self, w: usize) -> bool
+        ensures { result ≡ (self.aggressive && w == self.flag) }
+    {
+        self.aggressive && w == self.flag
+    }
 }
 
 // Element `e` of mark `w`, which is there: kept, or dropped.
-pub fn keep_live(
-    lists: &mut [i64],
-    s: &mut [i64],
-    n: usize,
-    me: usize,
-    e: usize,
-    w: usize,
-    flag: usize,
-    aggressive: bool,
-    k: Kept,
-) -> Kept
-    requires { Room n s.old × Rows n lists.old × (e < n) × (w < 2 ^ 63) × (k.end < length lists.old) }
-    ensures { (keeping lists.new s.new result ≡ kept_live n me flag aggressive e w (keeping lists.old s.old k)) × Room n s.new × Rows n lists.new × Grown k result }
+#[tactic(auto, unfolding(crate::specs::Model::kept_live, crate::specs::Model::kept_entry))]
+pub fn keep_live(m: &mut Memory, r: Rule, e: usize, w: usize, k: Kept) -> Kept
+    requires { (e < m.old.n) × (w < 2 ^ 63) × (k.end < length m.old.lists) }
+    ensures kept { keeping m.new.lists m.new.scratch result ≡ kept_live m.old.n r.me r.flag r.aggressive e w (keeping m.old.lists m.old.scratch k) }
+    ensures size { SameSize m.old m.new }
+    ensures grown { Grown k result }
 {
-    if flag < w {
-        keep_entry(lists, n, e, w - flag, k)
-    } else if swallows(w, flag, aggressive) {
-        packed::absorb(s, n, me, e);
+    if r.flag < w {
+        keep_entry(m, e, w - r.flag, k)
+    } else if r.swallows(w) {
+        packed::absorb(m, r.me, e);
         k
     } else {
-        keep_entry(lists, n, e, 0, k)
+        keep_entry(m, e, 0, k)
     }
 }
 
 // The element in cell `q`.
-pub fn keep_element(
-    lists: &mut [i64],
-    s: &mut [i64],
-    n: usize,
-    me: usize,
-    q: usize,
-    flag: usize,
-    aggressive: bool,
-    k: Kept,
-) -> Kept
-    requires { Room n s.old × Rows n lists.old × (k.end ≤ q) × (q < length lists.old) }
-    ensures { (keeping lists.new s.new result ≡ kept_element n me flag aggressive q (keeping lists.old s.old k)) × Room n s.new × Rows n lists.new × Grown k result }
+#[tactic(auto, unfolding(crate::specs::Model::kept_element))]
+pub fn keep_element(m: &mut Memory, r: Rule, q: usize, k: Kept) -> Kept
+    requires { (k.end ≤ q) × (q < length m.old.lists) }
+    ensures kept { keeping m.new.lists m.new.scratch result ≡ kept_element m.old.n r.me r.flag r.aggressive q (keeping m.old.lists m.old.scratch k) }
+    ensures size { SameSize m.old m.new }
+    ensures grown { Grown k result }
 {
-    let e = cells::row(lists, n, q);
-    let w = cells::get(s, n, cells::W, e);
-    if 0 < w {
-        keep_live(lists, s, n, me, e, w, flag, aggressive, k)
-    } else {
-        k
-    }
+    let e = m.row(q);
+    let w = m.get(Field::W, e);
+    if 0 < w { keep_live(m, r, e, w, k) } else { k }
 }
 
 // The `len` elements from `p` on: those that are kept move to the left.
-pub fn keep_elements(
-    lists: &mut [i64],
-    s: &mut [i64],
-    n: usize,
-    me: usize,
-    p: usize,
-    len: usize,
-    flag: usize,
-    aggressive: bool,
-) -> Kept
-    requires { Room n s.old × Rows n lists.old × (p + len ≤ length lists.old) }
-    ensures { (keeping lists.new s.new result ≡ kept_elements n me flag aggressive p len lists.old s.old) × Room n s.new × Rows n lists.new × (p ≤ result.end) × (result.end ≤ p + len) }
+#[tactic(auto, using(plain::proofs::Turns::begin, plain::proofs::Turns::finish), unfolding(crate::specs::Model::kept_elements))]
+pub fn keep_elements(m: &mut Memory, r: Rule, p: usize, len: usize) -> Kept
+    requires { p + len ≤ length m.old.lists }
+    ensures kept { keeping m.new.lists m.new.scratch result ≡ kept_elements m.old.n r.me r.flag r.aggressive p len m.old.lists m.old.scratch }
+    ensures size { SameSize m.old m.new }
+    ensures within { (p ≤ result.end) × (result.end ≤ p + len) }
 {
     let mut k = Kept {
         elements: p,
@@ -117,95 +110,91 @@ pub fn keep_elements(
         deg: 0,
         sum: 0,
     };
+    prove!(len <= m.size() - p);
     for t in 0..len {
-        k = keep_element(lists, s, n, me, p + t, flag, aggressive, k);
+        k = keep_element(m, r, p + t, k);
     }
     k
 }
 
 // The variable in cell `q`: kept if it is wanted.
-pub fn keep_variable(lists: &mut [i64], s: &[i64], n: usize, q: usize, k: Kept) -> Kept
-    requires { Room n s.now × Rows n lists.old × (k.end ≤ q) × (q < length lists.old) }
-    ensures { (keeping lists.new s.now result ≡ kept_variable n q (keeping lists.old s.now k)) × Rows n lists.new × Grown k result }
+#[tactic(auto, unfolding(crate::specs::Model::kept_variable, crate::specs::Model::kept_entry))]
+pub fn keep_variable(m: &mut Memory, q: usize, k: Kept) -> Kept
+    requires { (k.end ≤ q) × (q < length m.old.lists) }
+    ensures kept { keeping m.new.lists m.new.scratch result ≡ kept_variable m.old.n q (keeping m.old.lists m.old.scratch k) }
+    ensures size { SameSize m.old m.new }
+    ensures scratch { m.new.scratch ≡ m.old.scratch }
+    ensures grown { Grown k result }
 {
-    let v = cells::row(lists, n, q);
-    let w = cells::get(s, n, cells::WANT, v);
-    if 0 < w {
-        keep_entry(lists, n, v, w, k)
-    } else {
-        k
-    }
+    let v = m.row(q);
+    let w = m.get(Field::Want, v);
+    if 0 < w { keep_entry(m, v, w, k) } else { k }
 }
 
 // The `len` variables from `from` on: those that are kept move to behind what is kept of the elements.
-pub fn keep_variables(
-    lists: &mut [i64],
-    s: &[i64],
-    n: usize,
-    from: usize,
-    len: usize,
-    start: Kept,
-) -> Kept
-    requires { Room n s.now × Rows n lists.old × (start.end ≤ from) × (from + len ≤ length lists.old) }
-    ensures { (keeping lists.new s.now result ≡ kept_variables n from len (keeping lists.old s.now start)) × Rows n lists.new × (result.elements ≡ start.end) × (start.end ≤ result.end) × (result.end ≤ from + len) }
+#[tactic(auto, using(plain::proofs::Turns::begin, plain::proofs::Turns::finish), unfolding(crate::specs::Model::kept_variables))]
+pub fn keep_variables(m: &mut Memory, from: usize, len: usize, start: Kept) -> Kept
+    requires { (start.end ≤ from) × (from + len ≤ length m.old.lists) }
+    ensures kept { keeping m.new.lists m.new.scratch result ≡ kept_variables m.old.n from len (keeping m.old.lists m.old.scratch start) }
+    ensures size { SameSize m.old m.new }
+    ensures scratch { m.new.scratch ≡ m.old.scratch }
+    ensures elements { result.elements ≡ start.end }
+    ensures within { (start.end ≤ result.end) × (result.end ≤ from + len) }
 {
     let mut k = Kept {
         elements: start.end,
-        end: start.end,
-        deg: start.deg,
-        sum: start.sum,
+        ..start
     };
+    prove!(len <= m.size() - from);
     for t in 0..len {
-        k = keep_variable(lists, s, n, from + t, k);
+        k = keep_variable(m, from + t, k);
     }
     k
 }
 
 // What is kept of the list of `len` cells from `p` on, `elen` of them elements.
-pub fn keep_all(
-    lists: &mut [i64],
-    s: &mut [i64],
-    n: usize,
-    me: usize,
-    p: usize,
-    elen: usize,
-    len: usize,
-    flag: usize,
-    aggressive: bool,
-) -> Kept
-    requires { Room n s.old × Rows n lists.old × (elen ≤ len) × (p + len ≤ length lists.old) }
-    ensures { (keeping lists.new s.new result ≡ kept_all n me flag aggressive p elen len lists.old s.old) × Room n s.new × Rows n lists.new × (p ≤ result.elements) × (result.elements ≤ result.end) }
+#[tactic(auto, unfolding(crate::specs::Model::kept_all))]
+pub fn keep_all(m: &mut Memory, r: Rule, p: usize, elen: usize, len: usize) -> Kept
+    requires { (elen ≤ len) × (p + len ≤ length m.old.lists) }
+    ensures kept { keeping m.new.lists m.new.scratch result ≡ kept_all m.old.n r.me r.flag r.aggressive p elen len m.old.lists m.old.scratch }
+    ensures size { SameSize m.old m.new }
+    ensures within { (p ≤ result.elements) × (result.elements ≤ result.end) }
 {
-    let first = keep_elements(lists, s, n, me, p, elen, flag, aggressive);
-    keep_variables(lists, s, n, p + elen, len - elen, first)
+    prove!(len <= m.size() - p);
+    let first = keep_elements(m, r, p, elen);
+    keep_variables(m, p + elen, len - elen, first)
 }
 
 // ---- nothing is kept
 
 // The weight of `i` goes to `me`. It is the result.
-pub fn take_weight(s: &mut [i64], n: usize, me: usize, i: usize) -> usize
-    requires { Room n s.old × (me < n) × (i < n) }
-    ensures { (result ≡ weighed n i s.old) × (s.new ≡ took_weight n me i s.old) × Room n s.new × (result < 2 ^ 63) }
+#[tactic(auto, unfolding(crate::specs::Model::took_weight))]
+pub fn take_weight(m: &mut Memory, me: usize, i: usize) -> usize
+    requires { (me < m.old.n) × (i < m.old.n) }
+    ensures weight { result ≡ weighed m.old.n i m.old.scratch }
+    ensures took { m.new ≡ record m.old { scratch = took_weight m.old.n me i m.old.scratch } }
+    ensures small { result < 2 ^ 63 }
 {
-    let w = cells::look(s, n, cells::NV, i);
-    let old = cells::look(s, n, cells::NV, me);
-    let new = cells::plus(old, w);
-    cells::note(s, n, cells::NV, me, new);
-    cells::note(s, n, cells::NV, i, 0);
+    let w = m.get(Field::Nv, i);
+    let old = m.get(Field::Nv, me);
+    m.set(Field::Nv, me, cells::plus(old, w));
+    m.set(Field::Nv, i, 0);
     w
 }
 
 // Row `i` has no list, is a child of `me`, and the `made`-th of the log.
-pub fn bury(s: &mut [i64], n: usize, me: usize, i: usize, made: usize)
-    requires { Room n s.old × (i < n) }
-    ensures { (s.new ≡ buried n me i made s.old) × Room n s.new }
+#[tactic(auto, unfolding(crate::specs::Model::buried))]
+pub fn bury(m: &mut Memory, me: usize, i: usize, made: usize)
+    requires { i < m.old.n }
+    ensures { m.new ≡ record m.old { scratch = buried m.old.n me i made m.old.scratch } }
 {
-    cells::set(s, n, cells::LEN, i, 0);
-    cells::put_parent(s, n, i, me);
-    cells::put(s, n, cells::MERGES, made, i);
+    prove!(i < m.columns());
+    m.set(Field::Len, i, 0);
+    m.put_parent(i, Some(me));
+    m.up(Field::Merges, made, i);
 }
 
-// The weight merged into the pivot so far, and the rows in the log.
+// The weight merged into the pivot so far, and the rows in the log. `Few` is no ghost field: `massed` and `updated_all` of specs/ make one of any numbers.
 #[derive(Clone, Copy)]
 pub struct Merged {
     pub weight: usize,
@@ -213,180 +202,167 @@ pub struct Merged {
 }
 
 // Row `i` is eliminated with the pivot.
-pub fn mass_eliminate(s: &mut [i64], n: usize, me: usize, i: usize, t: Merged) -> Merged
-    requires { Room n s.old × (me < n) × (i < n) × Few t }
-    ensures { (result ≡ massed n i s.old t) × (s.new ≡ buried n me i t.made (took_weight n me i s.old)) × Room n s.new × Few result }
+#[tactic(auto, unfolding(crate::specs::Model::massed))]
+pub fn mass_eliminate(m: &mut Memory, me: usize, i: usize, t: Merged) -> Merged
+    requires { (me < m.old.n) × (i < m.old.n) × Few t }
+    ensures massed { result ≡ massed m.old.n i m.old.scratch t }
+    ensures buried { m.new ≡ record m.old { scratch = buried m.old.n me i t.made (took_weight m.old.n me i m.old.scratch) } }
+    ensures few { Few result }
 {
-    let w = take_weight(s, n, me, i);
-    bury(s, n, me, i, t.made);
-    let weight = cells::plus(t.weight, w);
-    let made = cells::plus(t.made, 1);
+    let w = take_weight(m, me, i);
+    bury(m, me, i, t.made);
     Merged {
-        weight: weight,
-        made: made,
+        weight: cells::plus(t.weight, w),
+        made: cells::plus(t.made, 1),
     }
 }
 
 // ---- the list of a row that stays
 
 // Of the numbers from `p` to `end` the first goes to place `elements`, the one there to the end, and `me` to the front.
-pub fn turn_list(lists: &mut [i64], n: usize, me: usize, p: usize, elements: usize, end: usize)
-    requires { Rows n lists.old × (me < n) × (me < 2 ^ 63) × (p ≤ elements) × (elements ≤ end) × (end < length lists.old) }
-    ensures { (lists.new ≡ turned me p elements end lists.old) × Rows n lists.new }
+#[tactic(auto, unfolding(crate::specs::Model::turned))]
+pub fn turn_list(m: &mut Memory, me: usize, p: usize, elements: usize, end: usize)
+    requires { (me < m.old.n) × (p ≤ elements) × (elements ≤ end) × (end < length m.old.lists) }
+    ensures turned { m.new ≡ record m.old { lists = turned me p elements end m.old.lists } }
+    ensures size { length m.new.lists ≡ length m.old.lists }
 {
-    let last = cells::row(lists, n, elements);
-    cells::put_row(lists, n, end, last);
-    let first = cells::row(lists, n, p);
-    cells::put_row(lists, n, elements, first);
-    cells::put_row(lists, n, p, me);
+    let last = m.row(elements);
+    m.put_row(end, last);
+    let first = m.row(p);
+    m.put_row(elements, first);
+    m.put_row(p, me);
 }
 
 // The counts of row `i`, with `me` in its list.
-pub fn finish_list(s: &mut [i64], n: usize, i: usize, elements: usize, cnt: usize)
-    requires { Room n s.old × (i < n) × (elements < 2 ^ 62) × (cnt < 2 ^ 62) }
-    ensures { (s.new ≡ sized n i elements cnt s.old) × Room n s.new }
+#[tactic(auto, unfolding(crate::specs::Model::sized))]
+pub fn finish_list(m: &mut Memory, i: usize, elements: usize, cnt: usize)
+    requires { (i < m.old.n) × (elements < 2 ^ 62) × (cnt < 2 ^ 62) }
+    ensures { m.new ≡ record m.old { scratch = sized m.old.n i elements cnt m.old.scratch } }
 {
-    cells::set(s, n, cells::ELEN, i, elements + 1);
-    cells::set(s, n, cells::LEN, i, cnt + 1);
+    m.set(Field::Elen, i, elements + 1);
+    m.set(Field::Len, i, cnt + 1);
 }
 
-// The degree without the new element: the smaller of the old and `deg`.
+// The degree without the new element: the smaller of the old and `deg`. Written where it is lower alone: a `min` would write the old one over itself.
 #[tactic(auto, unfolding(crate::specs::Model::lowered))]
-pub fn lower_degree(s: &mut [i64], n: usize, i: usize, deg: usize)
-    requires { Room n s.old × (i < n) }
-    ensures { (s.new ≡ lowered n i deg s.old) × Room n s.new }
+pub fn lower_degree(m: &mut Memory, i: usize, deg: usize)
+    requires { i < m.old.n }
+    ensures { m.new ≡ record m.old { scratch = lowered m.old.n i deg m.old.scratch } }
 {
-    let old = cells::get(s, n, cells::DEGREE, i);
+    let old = m.get(Field::Degree, i);
     if deg < old {
-        cells::set(s, n, cells::DEGREE, i, deg);
+        m.set(Field::Degree, i, deg);
     }
 }
 
 // The key of a sum.
+#[tactic(auto, unfolding(crate::specs::Model::key_of))]
 pub fn key_of(n: usize, sum: usize) -> usize
     requires { 0 < n }
-    ensures { (result ≡ key_of n sum) × (result < n) }
+    ensures key { result ≡ key_of n sum }
+    ensures below { result < n }
 {
     sum % n
 }
 
 // Row `i` is the newest of its key.
-pub fn put_key(s: &mut [i64], n: usize, i: usize, key: usize)
-    requires { Room n s.old × (i < n) × (key < n) }
-    ensures { (s.new ≡ keyed n i key s.old) × Room n s.new }
+#[tactic(auto, unfolding(crate::specs::Model::keyed))]
+pub fn put_key(m: &mut Memory, i: usize, key: usize)
+    requires { (i < m.old.n) × (key < m.old.n) }
+    ensures { m.new ≡ record m.old { scratch = keyed m.old.n i key m.old.scratch } }
 {
-    let before = cells::look(s, n, cells::HHEAD, key);
-    cells::note(s, n, cells::HNEXT, i, before);
-    cells::note(s, n, cells::HHEAD, key, i);
-    cells::note(s, n, cells::HKEY, i, key);
+    let before = m.get(Field::HHead, key);
+    m.set(Field::HNext, i, before);
+    m.set(Field::HHead, key, i);
+    m.set(Field::HKey, i, key);
 }
 
 // Row `i`, which has moved to the front of its place `p` what it keeps, gets its list, its degree and its bucket.
-pub fn relist(lists: &mut [i64], s: &mut [i64], n: usize, me: usize, i: usize, p: usize, k: Kept)
-    requires { Room n s.old × Rows n lists.old × (me < n) × (i < n) × (p ≤ k.elements) × (k.elements ≤ k.end) × (k.end < length lists.old) }
-    ensures { (lists.new ≡ turned me p k.elements k.end lists.old) × (s.new ≡ relisted n i p k s.old) × Room n s.new × Rows n lists.new }
+#[tactic(auto, unfolding(crate::specs::Model::relisted))]
+pub fn relist(m: &mut Memory, me: usize, i: usize, p: usize, k: Kept)
+    requires { (me < m.old.n) × (i < m.old.n) × (p ≤ k.elements) × (k.elements ≤ k.end) × (k.end < length m.old.lists) }
+    ensures relisted { m.new ≡ record m.old { lists = turned me p k.elements k.end m.old.lists; scratch = relisted m.old.n i p k m.old.scratch } }
+    ensures size { length m.new.lists ≡ length m.old.lists }
 {
-    turn_list(lists, n, me, p, k.elements, k.end);
-    finish_list(s, n, i, k.elements - p, k.end - p);
-    lower_degree(s, n, i, k.deg);
-    let key = key_of(n, k.sum);
-    put_key(s, n, i, key);
+    prove!(k.end < m.size());
+    turn_list(m, me, p, k.elements, k.end);
+    finish_list(m, i, k.elements - p, k.end - p);
+    lower_degree(m, i, k.deg);
+    let key = key_of(m.columns(), k.sum);
+    put_key(m, i, key);
 }
 
 // ---- the rows of the new element
 
-// Row `i`, whose list of `len` cells from `p` on, `elen` of them elements, is there. What it keeps is fewer, so that there is a cell behind it: that is asked once, too.
+// Row `i`, whose list of `len` cells from `p` on, `elen` of them elements, is there. It keeps fewer, so there is a cell behind it: that is asked once, too.
+#[tactic(auto, unfolding(crate::specs::Model::settled, crate::specs::Model::renewed))]
 pub fn update_inside(
-    lists: &mut [i64],
-    s: &mut [i64],
-    n: usize,
-    me: usize,
+    m: &mut Memory,
+    r: Rule,
     i: usize,
     p: usize,
     elen: usize,
     len: usize,
-    flag: usize,
-    aggressive: bool,
     t: Merged,
 ) -> Merged
-    requires { Room n s.old × Rows n lists.old × (me < n) × (i < n) × (elen ≤ len) × (p + len ≤ length lists.old) × Few t }
-    ensures { (trimming lists.new s.new result ≡ settled n me i p (kept_all n me flag aggressive p elen len lists.old s.old) t) × Room n s.new × Rows n lists.new × Few result }
+    requires { (r.me < m.old.n) × (i < m.old.n) × (elen ≤ len) × (p + len ≤ length m.old.lists) × Few t }
+    ensures settled { trimming m.new.lists m.new.scratch result
+        ≡ settled m.old.n r.me i p (kept_all m.old.n r.me r.flag r.aggressive p elen len m.old.lists m.old.scratch) t }
+    ensures size { SameSize m.old m.new }
+    ensures few { Few result }
 {
-    let k = keep_all(lists, s, n, me, p, elen, len, flag, aggressive);
+    let k = keep_all(m, r, p, elen, len);
     if k.end <= p {
-        return mass_eliminate(s, n, me, i, t);
+        return mass_eliminate(m, r.me, i, t);
     }
-    if k.end < lists.len() {
-        relist(lists, s, n, me, i, p, k);
+    if k.end < m.size() {
+        relist(m, r.me, i, p, k);
     }
     t
 }
 
 // Row `i`. Whether its list is there is asked once.
-pub fn update_variable(
-    lists: &mut [i64],
-    s: &mut [i64],
-    n: usize,
-    me: usize,
-    i: usize,
-    flag: usize,
-    aggressive: bool,
-    t: Merged,
-) -> Merged
-    requires { Room n s.old × Rows n lists.old × (me < n) × (i < n) × Few t }
-    ensures { (trimming lists.new s.new result ≡ updated n me flag aggressive i (trimming lists.old s.old t)) × Room n s.new × Rows n lists.new × Few result }
+#[tactic(auto, unfolding(crate::specs::Model::updated))]
+pub fn update_variable(m: &mut Memory, r: Rule, i: usize, t: Merged) -> Merged
+    requires { (r.me < m.old.n) × (i < m.old.n) × Few t }
+    ensures updated { trimming m.new.lists m.new.scratch result ≡ updated m.old.n r.me r.flag r.aggressive i (trimming m.old.lists m.old.scratch t) }
+    ensures size { SameSize m.old m.new }
+    ensures few { Few result }
 {
-    let p = cells::get(s, n, cells::PE, i);
-    let elen = cells::get(s, n, cells::ELEN, i);
-    let len = cells::get(s, n, cells::LEN, i);
-    if elen <= len {
-        if p + len <= lists.len() {
-            return update_inside(lists, s, n, me, i, p, elen, len, flag, aggressive, t);
-        }
+    let p = m.get(Field::Pe, i);
+    let elen = m.get(Field::Elen, i);
+    let len = m.get(Field::Len, i);
+    if elen <= len && p + len <= m.size() {
+        update_inside(m, r, i, p, elen, len, t)
+    } else {
+        t
     }
-    t
 }
 
 // The row in cell `q` of the lists.
-pub fn update_at(
-    lists: &mut [i64],
-    s: &mut [i64],
-    n: usize,
-    me: usize,
-    q: usize,
-    flag: usize,
-    aggressive: bool,
-    t: Merged,
-) -> Merged
-    requires { Room n s.old × Rows n lists.old × (me < n) × (q < length lists.old) × Few t }
-    ensures { (trimming lists.new s.new result ≡ updated_at n me flag aggressive q (trimming lists.old s.old t)) × Room n s.new × Rows n lists.new × Few result }
+#[tactic(auto, unfolding(crate::specs::Model::updated_at))]
+pub fn update_at(m: &mut Memory, r: Rule, q: usize, t: Merged) -> Merged
+    requires { (r.me < m.old.n) × (q < length m.old.lists) × Few t }
+    ensures updated { trimming m.new.lists m.new.scratch result ≡ updated_at m.old.n r.me r.flag r.aggressive q (trimming m.old.lists m.old.scratch t) }
+    ensures size { SameSize m.old m.new }
+    ensures few { Few result }
 {
-    let i = cells::row(lists, n, q);
-    update_variable(lists, s, n, me, i, flag, aggressive, t)
+    let i = m.row(q);
+    update_variable(m, r, i, t)
 }
 
-// The `len` rows of the new element `me`, from `from` on in the lists; `made` rows are in the log before.
-pub fn update_all(
-    lists: &mut [i64],
-    s: &mut [i64],
-    n: usize,
-    me: usize,
-    from: usize,
-    len: usize,
-    flag: usize,
-    aggressive: bool,
-    made: usize,
-) -> Merged
-    requires { Room n s.old × Rows n lists.old × (me < n) × (from < 2 ^ 63) × (len < 2 ^ 63) × (made < 2 ^ 63) }
-    ensures { (trimming lists.new s.new result ≡ updated_all n me flag aggressive from len made lists.old s.old) × Room n s.new × Rows n lists.new × Few result }
+// The `len` rows of the new element, from `from` on in the lists; `made` rows are in the log before.
+#[tactic(auto, using(plain::proofs::Turns::begin, plain::proofs::Turns::finish), unfolding(crate::specs::Model::updated_all))]
+pub fn update_all(m: &mut Memory, r: Rule, from: usize, len: usize, made: usize) -> Merged
+    requires { (r.me < m.old.n) × (from < 2 ^ 63) × (len < 2 ^ 63) × (made < 2 ^ 63) }
+    ensures updated { trimming m.new.lists m.new.scratch result ≡ updated_all m.old.n r.me r.flag r.aggressive from len made m.old.lists m.old.scratch }
+    ensures size { SameSize m.old m.new }
+    ensures few { Few result }
 {
-    let turns = cells::clip(lists.len(), from, len);
-    let mut t = Merged {
-        weight: 0,
-        made: made,
-    };
+    let turns = m.clip(from, len);
+    let mut t = Merged { weight: 0, made };
     for j in 0..turns {
-        t = update_at(lists, s, n, me, from + j, flag, aggressive, t);
+        t = update_at(m, r, from + j, t);
     }
     t
 }

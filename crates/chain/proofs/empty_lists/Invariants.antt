@@ -1,10 +1,9 @@
-use mathlib.Core.Path.{◌≡◌}
-use Prim.Native.Nat.{◌≤◌}
-use lib.ListN.{length}
-use Rattle.plain.specs.Turns.{Turned}
+use Rattle.std.proofs.Common.{◌≡◌}
+use Rattle.plain.specs.Turns.{times}
 use Rattle.cells.specs.Layout.{HEAD}
-use Rattle.cells.specs.View.{up, Room}
+use Rattle.cells.specs.View.{up}
 use Rattle.chain.proofs.empty_lists.Given as goal
 
 abbrev pub invariant-loop-d : goal.invariant-loop-d
-invariant-loop-d l = Turned (λ e m. up l.n HEAD m e l.n) l.initial.s l.d l.s × (length l.s ≡ length l.initial.s) × Room l.n l.s × (l.d ≤ l.n)
+invariant-loop-d l =
+    l.m ≡ record l.initial.m { scratch = times l.d (λ d s. up l.initial.m.n HEAD s d l.initial.m.n) l.initial.m.scratch }

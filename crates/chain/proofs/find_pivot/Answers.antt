@@ -1,4 +1,4 @@
-use borrow.Author.Rules.{rules}
+use Rattle.std.proofs.Common.{rules}
 use Rattle.chain.proofs.Turn.{start, more, nothing, found}
 use Rattle.chain.proofs.find_pivot.Goals as goal
 
@@ -8,8 +8,8 @@ loop-d-init c = search (rules, start)
 pub loop-d-preserved : goal.loop-d-preserved
 loop-d-preserved c = search (rules, more)
 
-pub returns-then-n-d : goal.returns-then-n-d
-returns-then-n-d c = search (rules, nothing)
+pub returns-then-n-d-clause-none : goal.returns-then-n-d-clause-none
+returns-then-n-d-clause-none c = search (rules, nothing)
 
-pub returns-then-front-n : goal.returns-then-front-n
-returns-then-front-n c = search (rules, found)
+pub returns-then-front-n-clause-first : goal.returns-then-front-n-clause-first
+returns-then-front-n-clause-first c = search (rules, found)

@@ -1,9 +1,9 @@
-use Prim.Native.Nat.{◌-◌}
+use Rattle.std.proofs.Common.{◌-◌}
 use Rattle.chain.proofs.Turn.{Passed}
 use Rattle.chain.proofs.find_pivot.Given as goal
 
 abbrev pub invariant-loop-d : goal.invariant-loop-d
-invariant-loop-d l = Passed l.n l.s l.least l.d
+invariant-loop-d l = Passed l.m.n l.m.scratch l.least l.d
 
 abbrev pub decreases-loop-d : goal.decreases-loop-d
 decreases-loop-d l = l.n - l.d

@@ -1,14 +1,11 @@
-use mathlib.Core.Path.{◌≡◌}
-use lib.ListN.{length}
-use Rattle.cells.specs.View.{Room}
-use Rattle.cells.specs.Rows.{Rows}
+use Rattle.cells.specs.Space.{SameSize}
 use Rattle.elimination.specs.Model.{Small}
 use Rattle.elimination.proofs.Steps.{Running}
 use Rattle.elimination.proofs.eliminate_all.Given as goal
 
-abbrev pub invariant-loop-w : goal.invariant-loop-w
-invariant-loop-w l = Running l.n l.aggressive l.dense l.n l.initial.lists l.initial.s l.initial.w l.todo l.lists l.s l.w
-    × (length l.lists ≡ length l.initial.lists) × (length l.s ≡ length l.initial.s) × Room l.n l.s × Rows l.n l.lists × Small l.w.turn
-
-abbrev pub decreases-loop-w : goal.decreases-loop-w
-decreases-loop-w l = l.todo
+abbrev pub invariant-loop : goal.invariant-loop
+invariant-loop l = record {
+  running : Running l.fn.m.n l.aggressive l.dense l.fn.m.n l.fn.m.lists l.fn.m.scratch l.fn.start l.counter l.m.lists l.m.scratch l.w;
+  size : SameSize l.fn.m l.m;
+  small : Small l.w.turn;
+}

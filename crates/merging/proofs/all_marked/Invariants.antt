@@ -1,9 +1,9 @@
-use Prim.Native.Nat.{◌-◌, ◌≤◌}
+use Rattle.std.proofs.Common.{◌-◌, ◌≤◌}
 use Rattle.merging.proofs.Walks.{MarkedTo}
 use Rattle.merging.proofs.all_marked.Given as goal
 
 abbrev pub invariant-entries : goal.invariant-entries
-invariant-entries l = MarkedTo l.lists l.n l.s l.p l.flag l.t × (l.t ≤ l.m)
+invariant-entries l = MarkedTo l.m.lists l.m.n l.m.scratch l.p l.flag l.t × (l.t ≤ l.there)
 
 abbrev pub decreases-entries : goal.decreases-entries
-decreases-entries l = l.m - l.t
+decreases-entries l = l.there - l.t

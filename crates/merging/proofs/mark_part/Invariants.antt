@@ -1,11 +1,8 @@
-use Rattle.plain.specs.Turns.{Turned}
-use lib.ListN.{length}
-use mathlib.Core.Path.{◌≡◌}
-use Prim.Native.Nat.{◌+◌, ◌≤◌}
-use Rattle.cells.specs.View.{Room, at, up}
+use Rattle.std.proofs.Common.{◌≡◌, ◌+◌}
+use Rattle.plain.specs.Turns.{times}
 use Rattle.cells.specs.Layout.{W}
+use Rattle.cells.specs.View.{at, up}
 use Rattle.merging.proofs.mark_part.Given as goal
 
 abbrev pub invariant-loop-t : goal.invariant-loop-t
-invariant-loop-t l = Turned (λ j r. up l.n W r (at l.lists (l.p + j)) l.flag) l.initial.s l.t l.s × (length l.s ≡ length l.initial.s) × Room l.n l.s
-    × (l.t ≤ l.m)
+invariant-loop-t l = l.m ≡ record l.fn.m { scratch = times l.t (λ j s. up l.fn.m.n W s (at l.fn.m.lists (l.p + j)) l.flag) l.fn.m.scratch }

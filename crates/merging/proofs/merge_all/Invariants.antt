@@ -1,11 +1,11 @@
-use lib.ListN.{length}
-use mathlib.Core.Path.{◌≡◌}
-use Prim.Native.Nat.{◌≤◌}
-use Rattle.cells.specs.View.{Room}
-use Rattle.merging.specs.Model.{Bounded, merging}
-use Rattle.merging.proofs.Walks.{MergedTo}
+use Rattle.std.proofs.Common.{◌≡◌, ◌+◌}
+use Rattle.plain.specs.Turns.{times}
+use Rattle.cells.specs.Space.{SameLists}
+use Rattle.merging.specs.Model.{merged_row, merging}
 use Rattle.merging.proofs.merge_all.Given as goal
 
-abbrev pub invariant-loop-q : goal.invariant-loop-q
-invariant-loop-q l = MergedTo l.lists l.n l.k l.from (merging l.initial.s l.initial.t) l.q (merging l.s l.t) × (length l.s ≡ length l.initial.s)
-    × Room l.n l.s × Bounded l.t × (l.q ≤ l.q-end)
+abbrev pub invariant-loop-i : goal.invariant-loop-i
+invariant-loop-i l = record {
+  merged : merging l.m.scratch l.t ≡ times l.i (λ j. merged_row l.fn.m.lists l.fn.m.n l.k (l.from + j)) (merging l.fn.m.scratch l.initial.t);
+  lists : SameLists l.fn.m l.m;
+}

@@ -1,14 +1,12 @@
-use Prim.Native.Nat.{◌<◌, ◌^◌}
-use mathlib.Core.Path.{◌≡◌}
-use lib.ListN.{length}
-use Rattle.cells.specs.View.{Room}
-use Rattle.merging.specs.Model.{Bounded, merging}
+use Rattle.std.proofs.Common.{◌^◌, ◌<◌}
+use Rattle.cells.specs.Space.{SameLists}
+use Rattle.merging.specs.Model.{merging}
 use Rattle.merging.proofs.Walks.{Running}
 use Rattle.merging.proofs.merge_bucket.Given as goal
 
-abbrev pub invariant-loop-i : goal.invariant-loop-i
-invariant-loop-i l = Running l.lists l.n l.k l.k l.initial.i (merging l.initial.s l.initial.t) l.todo l.i (merging l.s l.t)
-    × (length l.s ≡ length l.initial.s) × Room l.n l.s × (l.i < 2 ^ 63) × Bounded l.t
-
-abbrev pub decreases-loop-i : goal.decreases-loop-i
-decreases-loop-i l = l.todo
+abbrev pub invariant-loop : goal.invariant-loop
+invariant-loop l = record {
+  running : Running l.fn.m.lists l.fn.m.n l.k l.initial.i (merging l.fn.m.scratch l.initial.t) l.counter l.i (merging l.m.scratch l.t);
+  lists : SameLists l.fn.m l.m;
+  small : l.i < 2 ^ 63;
+}

@@ -1,13 +1,11 @@
-use mathlib.Core.Path.{◌≡◌}
-use lib.ListN.{length}
-use Rattle.cells.specs.View.{Room}
+use Rattle.cells.specs.Space.{SameLists}
 use Rattle.merging.specs.Model.{Slight, comparing}
 use Rattle.merging.proofs.Walks.{Walking}
 use Rattle.merging.proofs.merge_into.Given as goal
 
-abbrev pub invariant-loop-w : goal.invariant-loop-w
-invariant-loop-w l = Walking l.lists l.n l.i l.len l.elen l.t.flag l.k (comparing l.initial.s l.initial.w) l.todo (comparing l.s l.w)
-    × (length l.s ≡ length l.initial.s) × Room l.n l.s × Slight l.n l.w
-
-abbrev pub decreases-loop-w : goal.decreases-loop-w
-decreases-loop-w l = l.todo
+abbrev pub invariant-loop : goal.invariant-loop
+invariant-loop l = record {
+  walking : Walking l.fn.m.lists l.fn.m.n l.i l.shape.len l.shape.elen l.shape.flag l.k (comparing l.fn.m.scratch l.initial.w) l.counter (comparing l.m.scratch l.w);
+  lists : SameLists l.fn.m l.m;
+  slight : Slight l.fn.m.n l.w;
+}

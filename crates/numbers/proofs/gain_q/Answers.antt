@@ -1,5 +1,4 @@
 -- `numbers::gain_q` meets its contract: each operation in turn.
-use lib.Dec.{lit<}
 use Rattle.numbers.proofs.Bounds.{Bounded}
 use Rattle.numbers.proofs.Signed as signed
 use Rattle.numbers.proofs.gain_q.Goals as goal
@@ -21,9 +20,6 @@ overflow_sub-result c = (signed.less (bounds c)).fits
 
 pub overflow_mul-result-2 : goal.overflow_mul-result-2
 overflow_mul-result-2 c = (signed.pairs (bounds c)).fits
-
-pub nonzero_div-result : goal.nonzero_div-result
-nonzero_div-result c = (lit< tt, (signed.half (bounds c)).fits)
 
 pub overflow_add-result : goal.overflow_add-result
 overflow_add-result c = (signed.q (bounds c)).fits

@@ -1,5 +1,4 @@
 -- `numbers::gain_s` meets its contract: each operation in turn.
-use lib.Dec.{lit<}
 use Rattle.numbers.proofs.Bounds.{Bounded}
 use Rattle.numbers.proofs.Signed as signed
 use Rattle.numbers.proofs.gain_s.Goals as goal
@@ -37,9 +36,6 @@ overflow_sub-result-2 c = (signed.less (bounds c)).fits
 pub overflow_mul-result-5 : goal.overflow_mul-result-5
 overflow_mul-result-5 c = (signed.pairs (bounds c)).fits
 
-pub nonzero_div-result : goal.nonzero_div-result
-nonzero_div-result c = (lit< tt, (signed.half (bounds c)).fits)
-
 pub overflow_mul-result-6 : goal.overflow_mul-result-6
 overflow_mul-result-6 c = (signed.twice (bounds c)).fits
 
@@ -48,9 +44,6 @@ overflow_sub-result-3 c = (signed.odd (bounds c)).fits
 
 pub overflow_mul-result-7 : goal.overflow_mul-result-7
 overflow_mul-result-7 c = (signed.triples (bounds c)).fits
-
-pub nonzero_div-result-2 : goal.nonzero_div-result-2
-nonzero_div-result-2 c = (lit< tt, (signed.sixth (bounds c)).fits)
 
 pub overflow_add-result-2 : goal.overflow_add-result-2
 overflow_add-result-2 c = (signed.s (bounds c)).fits

@@ -1,10 +1,7 @@
-use mathlib.Core.Path.{◌≡◌}
-use Prim.Native.Nat.{◌≤◌}
-use lib.ListN.{length}
-use Rattle.plain.specs.Turns.{Turned}
-use Rattle.cells.specs.View.{Room}
+use Rattle.std.proofs.Common.{◌≡◌, ◌≤◌}
+use Rattle.plain.specs.Turns.{times}
 use Rattle.opening.specs.Start.{begun}
 use Rattle.opening.proofs.start_rows.Given as goal
 
 abbrev pub invariant-loop-i : goal.invariant-loop-i
-invariant-loop-i l = Turned (begun l.n) l.initial.s l.i l.s × (length l.s ≡ length l.initial.s) × Room l.n l.s × (l.i ≤ l.n)
+invariant-loop-i l = (l.m ≡ record l.initial.m { scratch = times l.i (begun l.initial.m.n) l.initial.m.scratch }) × (l.i ≤ l.initial.m.n)

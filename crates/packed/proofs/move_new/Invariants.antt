@@ -1,10 +1,9 @@
-use Rattle.std.proofs.Common.{◌≡◌, ◌^◌, ◌<◌, ◌≤◌, length}
-use Rattle.cells.specs.Rows.{Rows}
-use Rattle.cells.specs.View.{Room}
+use Rattle.std.proofs.Common.{◌^◌, ◌<◌, ◌≤◌}
+use Rattle.cells.specs.Space.{SameSize}
 use Rattle.packed.specs.Model.{heap, moved_next}
 use Rattle.plain.specs.Turns.{Turned}
 use Rattle.packed.proofs.move_new.Given as goal
 
 abbrev pub invariant-loop-t : goal.invariant-loop-t
-invariant-loop-t l = Turned (moved_next l.n l.top) (heap l.initial.lists l.initial.s l.start) l.t (heap l.lists l.s l.end)
-    × (length l.lists ≡ length l.initial.lists) × (length l.s ≡ length l.initial.s) × Room l.n l.s × Rows l.n l.lists × (l.end < 2 ^ 63) × (l.t ≤ l.cnt)
+invariant-loop-t l = Turned (moved_next l.initial.m.n l.top) (heap l.initial.m.lists l.initial.m.scratch l.start) l.t (heap l.m.lists l.m.scratch l.end)
+    × SameSize l.initial.m l.m × (l.end < 2 ^ 63) × (l.t ≤ l.cnt)

@@ -1,32 +1,35 @@
-use borrow.Author.Rules.{rules}
-use Rattle.pattern.specs.Model.{met_part}
-use Rattle.pattern.proofs.Reaching.{until_none, until_more, until_stop, until_end}
-use Rattle.pattern.proofs.Steps.{meet_at_step}
+use Rattle.std.proofs.Common.{rules}
+use Rattle.pattern.specs.Model.{met_part, met_at}
+use Rattle.pattern.proofs.Reaching.{until_none, until_more, until_stop, until_next, until_end, until_last}
 use Rattle.pattern.proofs.Unwritten.{met_at_rows}
 use Rattle.pattern.proofs.meet_above.Goals as goal
 
 pub loop-p-init : goal.loop-p-init
-loop-p-init c = (until_none _ _ _ _ _ (met_at_rows _ _) _, search rules, search rules, search rules, search rules, search rules)
-
-pub returns-then-k-j : goal.returns-then-k-j
-unfolding met_part
-returns-then-k-j c =
-    let z = until_stop _ _ _ _ _ (met_at_rows _ _) _ _ _ c.loop-p.invariant.0 _ (search rules) c.entry-j.ensures.0 (search rules) _ c.pass_row.ensures.0 in
-    (z.0, z.1, search rules, search rules, search rules)
+loop-p-init c = search (rules, until_none)
 
 pub loop-p-preserved : goal.loop-p-preserved
-loop-p-preserved c = (
-  until_more _ _ _ _ _ (met_at_rows _ _) _ _ _ c.loop-p.invariant.0 _ _ (search rules) c.entry-j.ensures.0 (search rules)
-      (meet_at_step _ _ _ _ _ _ _ _ c.entry-j.ensures.0 c.meet.ensures.0),
-  search rules,
-  search rules,
-  search rules,
-  search rules,
-  search rules,
-)
+unfolding met_at
+loop-p-preserved c =
+    let n = c.loop-p.invariant.size.0 in
+    let e = rw n at c.entry-j.ensures.0 in
+    let h = rw n at c.meet.ensures.memory in
+    record {
+      done = until_more _ _ _ _ _ _ _ _ c.loop-p.invariant.done _ e _ (rw (← e) h) (search rules) (search rules) (met_at_rows _ _ _ _);
+      size = search rules;
+    }
 
-pub returns : goal.returns
+pub returns-then-k-j-clause-memory : goal.returns-then-k-j-clause-memory
 unfolding met_part
-returns c =
-    let z = until_end _ _ _ _ _ (met_at_rows _ _) _ _ _ c.loop-p.invariant.0 (search rules) in
-    (z.0, z.1, search rules, search rules, search rules)
+returns-then-k-j-clause-memory c =
+    until_stop _ _ _ _ _ _ _ _ c.loop-p.invariant.done _ (rw c.loop-p.invariant.size.0 at c.entry-j.ensures.0) (search rules)
+
+pub returns-then-k-j-clause-next : goal.returns-then-k-j-clause-next
+returns-then-k-j-clause-next c =
+    until_next _ _ _ _ _ _ _ _ c.loop-p.invariant.done _ (rw c.loop-p.invariant.size.0 at c.entry-j.ensures.0) _ c.pass_row.ensures.0 (search rules) (search rules)
+
+pub returns-clause-memory : goal.returns-clause-memory
+unfolding met_part
+returns-clause-memory c = until_end _ _ _ _ _ _ _ _ c.loop-p.invariant.done (search rules)
+
+pub returns-clause-next : goal.returns-clause-next
+returns-clause-next c = until_last _ _ _ _ _ _ _ _ c.loop-p.invariant.done (search rules) _ c.max.ensures

@@ -1,32 +1,36 @@
-use borrow.Author.Rules.{rules}
-use Rattle.pattern.specs.Model.{paired_part}
-use Rattle.pattern.proofs.Reaching.{until_none, until_more, until_stop, until_end}
-use Rattle.pattern.proofs.Steps.{pair_at_step}
+use Rattle.std.proofs.Common.{rules}
+use borrow.Author.Tests.{lt-ltb}
+use Rattle.pattern.specs.Model.{paired_part, paired_at}
+use Rattle.pattern.proofs.Reaching.{until_none, until_more, until_stop, until_next, until_end, until_last}
 use Rattle.pattern.proofs.Unwritten.{paired_at_rows}
 use Rattle.pattern.proofs.pair_above.Goals as goal
 
 pub loop-p-init : goal.loop-p-init
-loop-p-init c = (until_none _ _ _ _ _ (paired_at_rows _ _) _, search rules, search rules, search rules, search rules, search rules)
-
-pub returns-then-k-i : goal.returns-then-k-i
-unfolding paired_part
-returns-then-k-i c =
-    let z = until_stop _ _ _ _ _ (paired_at_rows _ _) _ _ _ c.loop-p.invariant.0 _ (search rules) c.entry-i.ensures.0 (search rules) _ c.pass_row.ensures.0 in
-    (z.0, z.1, search rules, search rules, search rules)
+loop-p-init c = search (rules, until_none)
 
 pub loop-p-preserved : goal.loop-p-preserved
-loop-p-preserved c = (
-  until_more _ _ _ _ _ (paired_at_rows _ _) _ _ _ c.loop-p.invariant.0 _ _ (search rules) c.entry-i.ensures.0 (search rules)
-      (pair_at_step _ _ _ _ _ _ _ _ c.entry-i.ensures.0 c.add_pair.ensures.0 (search rules)),
-  search rules,
-  search rules,
-  search rules,
-  search rules,
-  search rules,
-)
+unfolding paired_at
+loop-p-preserved c =
+    let n = c.loop-p.invariant.size.0 in
+    let e = rw n at c.entry-i.ensures.0 in
+    let h = rw n at c.add_pair.ensures.memory in
+    record {
+      done = until_more _ _ _ _ _ _ _ _ c.loop-p.invariant.done _ e _ (rw (← e, lt-ltb c.entry-i.result c.args.m.now.n (search rules)) h) (search rules) (search rules) (paired_at_rows _ _ _ _);
+      size = search rules;
+    }
 
-pub returns : goal.returns
+pub returns-then-k-i-clause-memory : goal.returns-then-k-i-clause-memory
 unfolding paired_part
-returns c =
-    let z = until_end _ _ _ _ _ (paired_at_rows _ _) _ _ _ c.loop-p.invariant.0 (search rules) in
-    (z.0, z.1, search rules, search rules, search rules)
+returns-then-k-i-clause-memory c =
+    until_stop _ _ _ _ _ _ _ _ c.loop-p.invariant.done _ (rw c.loop-p.invariant.size.0 at c.entry-i.ensures.0) (search rules)
+
+pub returns-then-k-i-clause-next : goal.returns-then-k-i-clause-next
+returns-then-k-i-clause-next c =
+    until_next _ _ _ _ _ _ _ _ c.loop-p.invariant.done _ (rw c.loop-p.invariant.size.0 at c.entry-i.ensures.0) _ c.pass_row.ensures.0 (search rules) (search rules)
+
+pub returns-clause-memory : goal.returns-clause-memory
+unfolding paired_part
+returns-clause-memory c = until_end _ _ _ _ _ _ _ _ c.loop-p.invariant.done (search rules)
+
+pub returns-clause-next : goal.returns-clause-next
+returns-clause-next c = until_last _ _ _ _ _ _ _ _ c.loop-p.invariant.done (search rules) _ c.max.ensures

@@ -1,16 +1,11 @@
 -- `pattern::pair_above` meets its contract. Assumes nothing.
-use Prim.Native.Nat.{◌<◌, ◌-◌, ◌^◌}
-use lib.ListN.{length}
-use mathlib.Core.Path.{◌≡◌}
-use Rattle.cells.specs.Rows.{Rows}
-use Rattle.cells.specs.View.{Room}
+use Rattle.cells.specs.Space.{SameSize}
 use Rattle.pattern.specs.Model.{heap, paired_at}
 use Rattle.pattern.proofs.Reaching.{Until}
 use Rattle.pattern.proofs.pair_above.Given as goal
 
 abbrev pub invariant-loop-p : goal.invariant-loop-p
-invariant-loop-p l = Until l.n l.k l.from l.to (paired_at l.n l.j) (heap l.initial.lists l.initial.s) (heap l.lists l.s) l.p
-    × (length l.lists ≡ length l.initial.lists) × (length l.s ≡ length l.initial.s) × Room l.n l.s × Rows l.n l.lists × (l.p < 2 ^ 63)
-
-abbrev pub decreases-loop-p : goal.decreases-loop-p
-decreases-loop-p l = l.to - l.p
+invariant-loop-p l = record {
+  done : Until l.initial.m.n l.k l.from l.to (paired_at l.initial.m.n l.j) (heap l.initial.m.lists l.initial.m.scratch) (heap l.m.lists l.m.scratch) l.p;
+  size : SameSize l.initial.m l.m;
+}

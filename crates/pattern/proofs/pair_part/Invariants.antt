@@ -1,14 +1,12 @@
 -- `pattern::pair_part` meets its contract. Assumes nothing.
-use Rattle.pattern.specs.Model.{heap, paired_at}
-use Rattle.plain.specs.Turns.{Turned}
-use Prim.Native.Nat.{◌≤◌, ◌-◌, ◌+◌}
-use lib.ListN.{length}
+use Prim.Native.Nat.{◌+◌, ◌-◌, ◌≤◌}
 use mathlib.Core.Path.{◌≡◌}
-use Rattle.cells.specs.Rows.{Rows}
-use Rattle.cells.specs.View.{Room}
+use Rattle.plain.specs.Turns.{times}
+use Rattle.cells.specs.Space.{SameSize}
+use Rattle.pattern.specs.Model.{heap, paired_at}
 use Rattle.pattern.proofs.pair_part.Given as goal
 
-abbrev pub invariant-loop-t : goal.invariant-loop-t
-invariant-loop-t l = Turned (λ u. paired_at l.n l.j (l.from + u)) (heap l.initial.lists l.initial.s) l.t (heap l.lists l.s)
-    × (length l.lists ≡ length l.initial.lists) × (length l.s ≡ length l.initial.s) × Room l.n l.s × Rows l.n l.lists × (l.t ≤ l.count)
-    × (l.count ≡ l.to - l.from)
+abbrev pub invariant-loop-p : goal.invariant-loop-p
+invariant-loop-p l =
+    (heap l.m.lists l.m.scratch ≡ times (l.p - l.from) (λ t. paired_at l.initial.m.n l.j (l.from + t)) (heap l.initial.m.lists l.initial.m.scratch))
+    × SameSize l.initial.m l.m × (l.from ≤ l.p) × (l.p - l.from ≤ l.to - l.from)

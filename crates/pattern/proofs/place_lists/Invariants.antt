@@ -1,12 +1,11 @@
 -- `pattern::place_lists` meets its contract. Assumes nothing.
-use Rattle.pattern.specs.Model.{spot, placed_list}
-use Rattle.plain.specs.Turns.{Turned}
-use Prim.Native.Nat.{◌≤◌, ◌<◌, ◌^◌}
-use lib.ListN.{length}
+use Prim.Native.Nat.{◌<◌, ◌^◌}
 use mathlib.Core.Path.{◌≡◌}
-use Rattle.cells.specs.View.{Room}
+use Rattle.plain.specs.Turns.{times}
+use Rattle.cells.specs.Space.{SameLists}
+use Rattle.pattern.specs.Model.{spot, placed_list}
 use Rattle.pattern.proofs.place_lists.Given as goal
 
 abbrev pub invariant-loop-i : goal.invariant-loop-i
-invariant-loop-i l = Turned (placed_list l.n) (spot l.initial.s 0) l.i (spot l.s l.free) × (length l.s ≡ length l.initial.s) × Room l.n l.s
-    × (l.free < 2 ^ 63) × (l.i ≤ l.n)
+invariant-loop-i l =
+    (spot l.m.scratch l.free ≡ times l.i (placed_list l.initial.m.n) (spot l.initial.m.scratch 0)) × SameLists l.initial.m l.m × (l.free < 2 ^ 63)

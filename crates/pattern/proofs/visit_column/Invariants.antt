@@ -1,12 +1,11 @@
 -- `pattern::visit_column` meets its contract. Assumes nothing.
-use Rattle.pattern.specs.Model.{visited}
-use Rattle.plain.specs.Turns.{Turned}
-use Prim.Native.Nat.{◌≤◌, ◌+◌}
-use lib.ListN.{length}
+use Prim.Native.Nat.{◌+◌}
 use mathlib.Core.Path.{◌≡◌}
-use Rattle.cells.specs.View.{Room, at}
+use Rattle.plain.specs.Turns.{times}
+use Rattle.cells.specs.View.{at}
+use Rattle.pattern.specs.Model.{visited}
 use Rattle.pattern.proofs.visit_column.Given as goal
 
 abbrev pub invariant-loop-t : goal.invariant-loop-t
-invariant-loop-t l = Turned (λ u. visited l.n l.j (at l.rows (l.from + u))) l.initial.s l.t l.s × (length l.s ≡ length l.initial.s) × Room l.n l.s
-    × (l.t ≤ l.count)
+invariant-loop-t l =
+    l.m ≡ record l.initial.m { scratch = times l.t (λ t. visited l.initial.m.n l.j (at l.rows (l.from + t))) l.initial.m.scratch }

@@ -1,12 +1,11 @@
-use Rattle.sizing.proofs.Steps.{sizing_begins, sizing_turns, sizing_marks, sizing_weights}
-use Rattle.std.proofs.Common.{rules}
+use Rattle.std.proofs.Common.{rules, ◌+◌}
+use Rattle.plain.specs.Turns.{times}
+use Rattle.cells.specs.View.{wrapped}
+use Rattle.sizing.specs.Model.{weighed_row}
+use Rattle.sizing.proofs.Marks.{weight_stays}
 use Rattle.sizing.proofs.size_all.Goals as goal
 
-pub loop-t-init : goal.loop-t-init
-loop-t-init c = search (rules, sizing_begins)
-
 pub loop-t-preserved : goal.loop-t-preserved
-loop-t-preserved c = search (rules, sizing_turns)
-
-pub returns : goal.returns
-returns c = search (rules, sizing_marks, sizing_weights)
+unfolding times weighed_row wrapped
+loop-t-preserved c =
+    search (rules, weight_stays c.args.m.now c.loop-t.m c.args.flag c.args.from c.loop-t.t (c.args.from + c.loop-t.t) c.loop-t.invariant.marks)

@@ -1,7 +1,10 @@
-use Rattle.sizing.proofs.Steps.{Sizing}
-use Rattle.cells.specs.View.{Room}
-use Rattle.std.proofs.Common.{◌≡◌, ◌≤◌, length}
+use Rattle.std.proofs.Common.{◌≡◌, ◌+◌}
+use Rattle.plain.specs.Turns.{times}
+use Rattle.sizing.specs.Model.{sized_row, weighed_row}
 use Rattle.sizing.proofs.size_all.Given as goal
 
 abbrev pub invariant-loop-t : goal.invariant-loop-t
-invariant-loop-t l = Sizing l.n l.lists l.flag l.from l.initial.s l.t l.s l.sum × (length l.s ≡ length l.initial.s) × Room l.n l.s × (l.t ≤ l.there)
+invariant-loop-t l = record {
+  marks : l.m ≡ record l.fn.m { scratch = times l.t (λ j. sized_row l.fn.m.n l.fn.m.lists l.flag (l.from + j)) l.fn.m.scratch };
+  weights : l.sum ≡ times l.t (λ j. weighed_row l.fn.m.n l.fn.m.lists l.fn.m.scratch (l.from + j)) 0;
+}

@@ -1,11 +1,8 @@
 -- `tree::measure` meets its contract: the loop is a fold by turns. Assumes nothing.
-use Prim.Native.Nat.{◌≤◌}
-use mathlib.Core.Path.{◌≡◌}
-use lib.ListN.{length}
-use Rattle.plain.specs.Turns.{Turned}
-use Rattle.cells.specs.View.{Room}
+use Rattle.std.proofs.Common.{◌≡◌}
+use Rattle.plain.specs.Turns.{times}
 use Rattle.tree.specs.Model.{measured_one}
 use Rattle.tree.proofs.measure.Given as goal
 
 abbrev pub invariant-loop-j : goal.invariant-loop-j
-invariant-loop-j l = Turned (measured_one l.n) l.initial.s l.j l.s × (length l.s ≡ length l.initial.s) × Room l.n l.s × (l.j ≤ l.n)
+invariant-loop-j l = l.m ≡ record l.initial.m { scratch = times l.j (measured_one l.initial.m.n) l.initial.m.scratch }

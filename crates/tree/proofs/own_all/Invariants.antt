@@ -1,13 +1,12 @@
 -- `tree::own_all` meets its contract: the loop is a fold by turns. Assumes nothing.
-use Prim.Native.Nat.{◌-◌, ◌≤◌}
-use mathlib.Core.Path.{◌≡◌}
-use lib.ListN.{length}
-use Rattle.plain.specs.Turns.{Turned}
+use Rattle.std.proofs.Common.{◌≡◌, ◌-◌}
+use Rattle.plain.specs.Turns.{times}
 use Rattle.cells.specs.Layout.{MERGES}
-use Rattle.cells.specs.View.{Room, rd}
+use Rattle.cells.specs.View.{rd}
 use Rattle.tree.specs.Model.{owned}
 use Rattle.tree.proofs.own_all.Given as goal
 
 abbrev pub invariant-loop-t : goal.invariant-loop-t
-invariant-loop-t l = Turned (λ t m. owned l.n (rd l.n MERGES m (l.count - 1 - t)) m) l.initial.s l.t l.s × (length l.s ≡ length l.initial.s) × Room l.n l.s
-    × (l.t ≤ l.count)
+invariant-loop-t l =
+    let n = l.initial.m.n in
+    l.m ≡ record l.initial.m { scratch = times (l.count - l.t) (λ t s. owned n (rd n MERGES s (l.count - 1 - t)) s) l.initial.m.scratch }

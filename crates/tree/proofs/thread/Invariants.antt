@@ -1,11 +1,11 @@
 -- `tree::thread` meets its contract: the loop is a fold by turns. Assumes nothing.
-use Prim.Native.Nat.{◌-◌, ◌≤◌}
-use mathlib.Core.Path.{◌≡◌}
-use lib.ListN.{length}
-use Rattle.plain.specs.Turns.{Turned}
-use Rattle.cells.specs.View.{Room}
+use Rattle.std.proofs.Common.{◌≡◌, ◌-◌}
+use Rattle.plain.specs.Turns.{times}
+use Rattle.tree.specs.Class.{class_number}
 use Rattle.tree.specs.Model.{threaded_one}
 use Rattle.tree.proofs.thread.Given as goal
 
-abbrev pub invariant-loop-k : goal.invariant-loop-k
-invariant-loop-k l = Turned (λ j. threaded_one l.n l.c (l.n - 1 - j)) l.initial.s l.k l.s × (length l.s ≡ length l.initial.s) × Room l.n l.s × (l.k ≤ l.n)
+abbrev pub invariant-loop-j : goal.invariant-loop-j
+invariant-loop-j l =
+    let n = l.initial.m.n in
+    l.m ≡ record l.initial.m { scratch = times (n - l.j) (λ k. threaded_one n (class_number l.class) (n - 1 - k)) l.initial.m.scratch }

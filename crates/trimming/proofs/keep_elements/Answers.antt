@@ -1,13 +1,12 @@
 use Rattle.std.proofs.Common.{rules}
-use Rattle.plain.proofs.Turns.{begin, turn}
-use Rattle.trimming.proofs.Steps.{elements_end}
+use Rattle.plain.proofs.Turns.{turn}
 use Rattle.trimming.proofs.keep_elements.Goals as goal
 
-pub loop-t-init : goal.loop-t-init
-loop-t-init c = search (rules, begin)
-
 pub loop-t-preserved : goal.loop-t-preserved
-loop-t-preserved c = search (rules, turn)
-
-pub returns : goal.returns
-returns c = search (rules, elements_end)
+loop-t-preserved c = record {
+  turned = turn _ _ _ _ c.loop-t.invariant.turned _ (rw c.loop-t.invariant.columns at c.keep_element-k.ensures.kept);
+  columns = search rules;
+  size = search rules;
+  low = search rules;
+  high = search rules;
+}

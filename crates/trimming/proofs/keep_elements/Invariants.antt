@@ -1,11 +1,14 @@
 use Rattle.std.proofs.Common.{◌≡◌, ◌+◌, ◌≤◌, length}
 use Rattle.plain.specs.Turns.{Turned}
-use Rattle.cells.specs.Rows.{Rows}
-use Rattle.cells.specs.View.{Room}
 use Rattle.trimming.specs.Model.{keeping, kept_element, nothing}
 use Rattle.trimming.proofs.keep_elements.Given as goal
 
 abbrev pub invariant-loop-t : goal.invariant-loop-t
-invariant-loop-t l = Turned (λ j. kept_element l.n l.me l.flag l.aggressive (l.p + j)) (keeping l.initial.lists l.initial.s (nothing l.p)) l.t
-    (keeping l.lists l.s l.k) × (length l.lists ≡ length l.initial.lists) × (length l.s ≡ length l.initial.s) × Room l.n l.s × Rows l.n l.lists
-    × (l.p ≤ l.k.end) × (l.k.end ≤ l.p + l.t) × (l.t ≤ l.len)
+invariant-loop-t l = record {
+  turned : Turned (λ j. kept_element l.initial.m.n l.r.me l.r.flag l.r.aggressive (l.p + j)) (keeping l.initial.m.lists l.initial.m.scratch (nothing l.p)) l.t
+      (keeping l.m.lists l.m.scratch l.k);
+  columns : l.m.n ≡ l.initial.m.n;
+  size : length l.m.lists ≡ length l.initial.m.lists;
+  low : l.p ≤ l.k.end;
+  high : l.k.end ≤ l.p + l.t;
+}

@@ -1,13 +1,14 @@
 use Rattle.std.proofs.Common.{rules}
-use Rattle.plain.proofs.Turns.{begin, turn}
-use Rattle.trimming.proofs.Steps.{variables_end}
+use Rattle.plain.proofs.Turns.{turn}
 use Rattle.trimming.proofs.keep_variables.Goals as goal
 
-pub loop-t-init : goal.loop-t-init
-loop-t-init c = search (rules, begin)
-
 pub loop-t-preserved : goal.loop-t-preserved
-loop-t-preserved c = search (rules, turn)
-
-pub returns : goal.returns
-returns c = search (rules, variables_end)
+loop-t-preserved c = record {
+  turned = turn _ _ _ _ c.loop-t.invariant.turned _ (rw c.loop-t.invariant.columns at c.keep_variable-k.ensures.kept);
+  columns = search rules;
+  size = search rules;
+  scratch = search rules;
+  elements = search rules;
+  low = search rules;
+  high = search rules;
+}

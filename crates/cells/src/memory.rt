@@ -1,0 +1,351 @@
+ghost use Rattle.std.specs.Prelude.{◌≡◌, ◌+◌, ◌-◌, ◌*◌, ◌<◌, ◌≤◌, ◌^◌, false, length, replicate, pos, get_or, set, unwrap_or, MatchOption, IfSome};
+ghost use Rattle.std.specs.Int.Signed.{mag};
+ghost use Rattle.std.proofs.Math.Option.{none, some};
+ghost use Rattle.cells.specs.View.{at, wr, rd, up, negative, place};
+ghost use Rattle.cells.specs.Rows.{clipped};
+ghost use Rattle.cells.specs.Links.{flipped, coded, decoded, named, parent, hang};
+ghost use Rattle.cells.specs.Field.{field_number};
+ghost use Rattle.cells.specs.Space.{Fits};
+
+use crate::field::Field;
+use crate::{clear, natural};
+use std::marker::Model;
+
+// ---- a cell of a slice
+
+// The number in cell `i`; a negative one counts as 0.
+fn load(l: &[i64], i: usize) -> usize
+    requires { i < length l.now }
+    ensures { (result ≡ at l.now i) × (result < 2 ^ 63) }
+{
+    natural(l[i])
+}
+
+// The number in cell `i`, which is not negative.
+fn fetch(l: &[i64], i: usize) -> usize
+    requires { (i < length l.now) × (negative l.now i ≡ false) }
+    ensures { (result ≡ at l.now i) × (result < 2 ^ 63) }
+{
+    let x = l[i];
+    x as usize
+}
+
+// Cell `i` becomes `v`.
+fn store(l: &mut [i64], i: usize, v: usize)
+    requires { (i < length l.old) × (v < 2 ^ 63) }
+    ensures { l.new ≡ wr l.old i v }
+{
+    l[i] = v as i64;
+}
+
+// The number in cell `i`; 0 where there is no such cell.
+fn peek(l: &[i64], i: usize) -> usize
+    ensures { (result ≡ at l.now i) × (result < 2 ^ 63) }
+{
+    if i < l.len() { load(l, i) } else { 0 }
+}
+
+// Cell `i` becomes `v`; nothing is done where there is no such cell.
+fn poke(l: &mut [i64], i: usize, v: usize)
+    requires { v < 2 ^ 63 }
+    ensures { l.new ≡ wr l.old i v }
+{
+    if i < l.len() {
+        store(l, i, v);
+    }
+}
+
+// Cell `i` as it is.
+fn signed(l: &[i64], i: usize) -> i64
+    requires { i < length l.now }
+    ensures { result ≡ get_or l.now i (pos 0) }
+{
+    l[i]
+}
+
+// Cell `i` becomes `x` as it is.
+fn store_signed(l: &mut [i64], i: usize, x: i64)
+    requires { i < length l.old }
+    ensures { l.new ≡ set l.old i x }
+{
+    l[i] = x;
+}
+
+// ---- a field's cell
+
+// The number of a field.
+fn number(field: Field) -> usize
+    ensures { result ≡ field_number field }
+{
+    field as usize
+}
+
+// The cell of a field of node `i`.
+fn place(field: Field, n: usize, i: usize) -> usize
+    requires { (i < n) × (16 * n + 16 < 2 ^ 60) }
+    ensures { (result ≡ place n (field_number field) i) × (result < 16 * n + 16) }
+{
+    let number = number(field);
+    if number < 8 {
+        8 * i + number
+    } else {
+        number * n + i
+    }
+}
+
+// ---- the signed coding of parent links
+
+// No parent, as the Rust has it.
+const EMPTY: i64 = -1;
+
+// -x - 2, a negation about EMPTY; written so that it fits for every number but the largest.
+fn flip(x: i64) -> i64
+    requires { mag (flipped x) < 2 ^ 63 }
+    ensures { result ≡ flipped x }
+{
+    -2 - x
+}
+
+// The code of a parent; EMPTY where there is none below `n`.
+fn code_of(n: usize, p: Option<usize>) -> i64
+    requires { n < 2 ^ 62 }
+    ensures { result ≡ coded (named n (unwrap_or p n)) }
+{
+    match p {
+        Some(p) if p < n => flip(p as i64),
+        _ => EMPTY,
+    }
+}
+
+// The parent that a cell names.
+fn link_of(x: i64) -> Option<usize>
+    ensures named { MatchOption result (decoded x ≡ none) (λ p. decoded x ≡ some p) }
+    ensures small { IfSome result (λ p. p < 2 ^ 63) }
+{
+    if x < EMPTY {
+        Some(flip(x) as usize)
+    } else {
+        None
+    }
+}
+
+/// The two workspaces of an ordering of `n` columns. Clauses see the number of columns and both as lists; every cell of the list space holds a row, and of the
+/// fields of the scratch the place of a list alone may be below 0, where it is a parent.
+#[derive(Drop)]
+pub struct Memory<'a> {
+    columns: usize,
+    rows: &'a mut [i64],
+    fields: &'a mut [i64],
+}
+
+impl<'a> Model for Memory<'a> {
+    ghost use Rattle.cells.specs.Space.{Space, space_code, Fits};
+
+    ghost Value = { Space };
+
+    ghost coded = { space_code };
+
+    ghost view = { λ m. record { n = m.columns; lists = m.rows.now; scratch = m.fields.now } };
+
+    ghost invariant = { λ m. Fits (record { n = m.columns; lists = m.rows.now; scratch = m.fields.now }) };
+}
+
+impl<'a> Memory<'a> {
+    /// Both workspaces are cleared, whatever they were lent with.
+    pub fn new(columns: usize, lists: &'a mut [i64], scratch: &'a mut [i64]) -> Self
+        requires some { 0 < columns }
+        requires room { 16 * columns + 16 ≤ length scratch.old }
+        ensures cleared { result ≡ record { n = columns; lists = replicate (length lists.old) (pos 0); scratch = replicate (length scratch.old) (pos 0) } }
+        ensures fits { Fits result }
+    {
+        clear(lists);
+        clear(scratch);
+        Memory {
+            columns,
+            rows: lists,
+            fields: scratch,
+        }
+    }
+
+    pub fn columns(&self) -> usize
+        ensures value { result ≡ self.now.n }
+        ensures small { result < 2 ^ 56 }
+        ensures fits { Fits self.now }
+    {
+        self.columns
+    }
+
+    // ---- rows in the list space
+
+    /// How many cells the list space has.
+    pub fn size(&self) -> usize
+        ensures { (result ≡ length self.now.lists) × (result < 2 ^ 60) }
+    {
+        self.rows.len()
+    }
+
+    /// How many of the `k` cells from `p` on are there: a loop over them asks once.
+    pub fn clip(&self, p: usize, k: usize) -> usize
+        ensures { (result ≡ clipped (length self.now.lists) p k) × (result ≤ k) × (result ≤ length self.now.lists - p) × (length self.now.lists < 2 ^ 60) }
+    {
+        k.min(self.rows.len().saturating_sub(p))
+    }
+
+    /// The row in cell `q`.
+    pub fn row(&self, q: usize) -> usize
+        requires { q < length self.now.lists }
+        ensures read { (result ≡ at self.now.lists q) × (result < self.now.n) × (result < 2 ^ 63) }
+        ensures bound { self.now.n < 2 ^ 56 }
+    {
+        fetch(self.rows, q)
+    }
+
+    /// Cell `q` becomes row `v`.
+    pub fn put_row(&mut self, q: usize, v: usize)
+        requires { (q < length self.old.lists) × (v < self.old.n) }
+        ensures put { self.new ≡ record self.old { lists = wr self.old.lists q v } }
+        ensures size { length self.new.lists ≡ length self.old.lists }
+    {
+        store(self.rows, q, v);
+    }
+
+    /// The same; nothing is done where there is no such cell.
+    pub fn poke_row(&mut self, q: usize, v: usize)
+        requires { v < self.old.n }
+        ensures put { self.new ≡ record self.old { lists = wr self.old.lists q v } }
+        ensures size { length self.new.lists ≡ length self.old.lists }
+    {
+        poke(self.rows, q, v);
+    }
+
+    /// Cell `e` becomes what cell `p` is.
+    pub fn copy_row(&mut self, p: usize, e: usize)
+        ensures put { self.new ≡ record self.old { lists = wr self.old.lists e (at self.old.lists p) } }
+        ensures size { length self.new.lists ≡ length self.old.lists }
+    {
+        let rows = &mut *self.rows;
+        let x = peek(rows, p);
+        poke(rows, e, x);
+    }
+
+    // ---- a field of the scratch
+
+    /// The field of node `i`.
+    pub fn get(&self, field: Field, i: usize) -> usize
+        requires { i < self.now.n }
+        ensures read { (result ≡ rd self.now.n (field_number field) self.now.scratch i) × (result < 2 ^ 63) }
+        ensures bound { self.now.n < 2 ^ 56 }
+    {
+        let cell = place(field, self.columns, i);
+        match field {
+            Field::Pe => load(self.fields, cell),
+            _ => fetch(self.fields, cell),
+        }
+    }
+
+    /// The field of node `i` becomes `v`.
+    pub fn set(&mut self, field: Field, i: usize, v: usize)
+        requires { (i < self.old.n) × (v < 2 ^ 63) }
+        ensures { self.new ≡ record self.old { scratch = up self.old.n (field_number field) self.old.scratch i v } }
+    {
+        store(self.fields, place(field, self.columns, i), v);
+    }
+
+    /// The field of node `i`; 0 where `i` is not below `n`.
+    pub fn rd(&self, field: Field, i: usize) -> usize
+        ensures read { (result ≡ rd self.now.n (field_number field) self.now.scratch i) × (result < 2 ^ 63) }
+        ensures bound { self.now.n < 2 ^ 56 }
+    {
+        if self.columns <= i {
+            return 0;
+        }
+        self.get(field, i)
+    }
+
+    /// The field of node `i` becomes `v`; nothing is done where `i` is not below `n`.
+    pub fn up(&mut self, field: Field, i: usize, v: usize)
+        requires { v < 2 ^ 63 }
+        ensures { self.new ≡ record self.old { scratch = up self.old.n (field_number field) self.old.scratch i v } }
+    {
+        if i < self.columns {
+            self.set(field, i, v);
+        }
+    }
+
+    // ---- the cleaned pattern
+
+    /// The pointer of column `k`; 0 where `k` is above `n`.
+    pub fn column(&self, k: usize) -> usize
+        ensures { (result ≡ rd self.now.n 15 self.now.scratch k) × (result < 2 ^ 63) }
+    {
+        if k <= self.columns {
+            fetch(self.fields, 15 * self.columns + k)
+        } else {
+            0
+        }
+    }
+
+    /// The pointer of column `k` becomes `v`; nothing is done where `k` is above `n`.
+    pub fn put_column(&mut self, k: usize, v: usize)
+        requires { v < 2 ^ 63 }
+        ensures { self.new ≡ record self.old { scratch = up self.old.n 15 self.old.scratch k v } }
+    {
+        if k <= self.columns {
+            store(self.fields, 15 * self.columns + k, v);
+        }
+    }
+
+    /// Row `p` of the pattern; 0 where there is no room for it.
+    pub fn entry(&self, p: usize) -> usize
+        ensures { (result ≡ rd self.now.n 16 self.now.scratch p) × (result < 2 ^ 63) }
+    {
+        let from = 16 * self.columns + 16;
+        if p < self.fields.len() - from {
+            fetch(self.fields, from + p)
+        } else {
+            0
+        }
+    }
+
+    /// Row `p` of the pattern becomes `v`; nothing is done where there is no room for it.
+    pub fn put_entry(&mut self, p: usize, v: usize)
+        requires { v < 2 ^ 63 }
+        ensures { self.new ≡ record self.old { scratch = up self.old.n 16 self.old.scratch p v } }
+    {
+        let from = 16 * self.columns + 16;
+        if p < self.fields.len() - from {
+            store(self.fields, from + p, v);
+        }
+    }
+
+    // ---- the signed coding of parent links
+
+    /// The parent of object `i`.
+    pub fn parent(&self, i: usize) -> Option<usize>
+        ensures named { MatchOption result (parent self.now.n self.now.scratch i ≡ none) (λ p. parent self.now.n self.now.scratch i ≡ some p) }
+        ensures small { IfSome result (λ p. p < 2 ^ 63) }
+    {
+        if i < self.columns {
+            link_of(signed(self.fields, 8 * i))
+        } else {
+            None
+        }
+    }
+
+    /// Object `i` gets the parent `p`, or none where `p` is not below `n`.
+    pub fn set_parent(&mut self, i: usize, p: Option<usize>)
+        requires { i < self.old.n }
+        ensures { self.new ≡ record self.old { scratch = hang self.old.n self.old.scratch i (named self.old.n (unwrap_or p self.old.n)) } }
+    {
+        store_signed(self.fields, 8 * i, code_of(self.columns, p));
+    }
+
+    /// The same; nothing is done where `i` is not below `n`.
+    pub fn put_parent(&mut self, i: usize, p: Option<usize>)
+        ensures { self.new ≡ record self.old { scratch = hang self.old.n self.old.scratch i (named self.old.n (unwrap_or p self.old.n)) } }
+    {
+        if i < self.columns {
+            self.set_parent(i, p);
+        }
+    }
+}

@@ -1,6 +1,0 @@
-use Rattle.trimming.proofs.Steps.{at_step}
-use Rattle.std.proofs.Common.{rules}
-use Rattle.trimming.proofs.update_at.Goals as goal
-
-pub returns : goal.returns
-returns c = search (rules, at_step)
