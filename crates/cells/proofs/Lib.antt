@@ -4,9 +4,7 @@ pub mod Fields
 pub mod Parents
 pub mod Laws
 pub mod Example
-pub mod Words
 pub mod Steps
-pub mod Filling
 pub mod Coding
 pub mod Segments
 pub mod Whole

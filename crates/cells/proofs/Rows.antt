@@ -50,16 +50,6 @@ module _ (n : ℕ) (l : List ℤ) (h : Rows n l) where
   pub rows_copy : (p e : ℕ) → Rows n (wr l e (at l p))
   rows_copy p e = copy_by p e (split e (length l)) (split p (length l))
 
--- as a contract says it
-pub row_read : (n : ℕ) (l : List ℤ) (q r : ℕ) → r ≡ at l q → q < length l → Rows n l → r < n
-row_read n l q r e b h = rw e (rows_low n l h q b)
-
-pub rows_stored : (n : ℕ) (l : List ℤ) (q v : ℕ) (m : List ℤ) → m ≡ wr l q v → v < n → Rows n l → Rows n m
-rows_stored n l q v m e s h = rw e (rows_wr n l h q v s)
-
-pub rows_copied : (n : ℕ) (l : List ℤ) (p e x : ℕ) (m : List ℤ) → x ≡ at l p → m ≡ wr l e x → Rows n l → Rows n m
-rows_copied n l p e x m a b h = rw (b, a) (rows_copy n l h p e)
-
 -- ---- a part
 
 -- where an empty part lies says nothing

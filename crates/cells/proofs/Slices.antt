@@ -1,6 +1,6 @@
 -- The laws of `at` and `wr`: what a cell holds after a store, and that a store keeps the length.
 -- Assumes nothing.
-use Prim.Native.Nat.{ℕ, zero, suc, ◌+◌, ◌-◌, ◌<◌, ◌≤◌, ◌^◌}
+use Prim.Native.Nat.{ℕ, zero, suc, ◌+◌, ◌<◌, ◌≤◌, ◌^◌}
 use native.Mathlib.Omega.{arith}
 use native.Mathlib.Decide.{dec_lt, ℕ_discrete}
 use native.Mathlib.Nat.{mod-eq_of_lt}
@@ -98,17 +98,6 @@ at_wr_cell' l i v j h = at_wr_other l i v j h
 pub plus_sum : (a b : ℕ) → a + b < 2 ^ 63 → plus a b ≡ a + b
 unfolding plus
 plus_sum a b h = rw (lt-ltb (a + b) (2 ^ 63) h)
-
-pub plus_cap : (a b : ℕ) → 2 ^ 63 ≤ a + b → plus a b ≡ 2 ^ 63 - 1
-unfolding plus
-plus_cap a b h = rw (le-ltb (a + b) (2 ^ 63) h)
-
-plus_either : (a b : ℕ) → (a + b < 2 ^ 63) ⊎ (2 ^ 63 ≤ a + b) → plus a b < 2 ^ 63
-plus_either a b (inl h) = rw (plus_sum a b h) h
-plus_either a b (inr h) = rw (plus_cap a b h) (omega arith)
-
-pub plus_small : (a b : ℕ) → plus a b < 2 ^ 63
-plus_small a b = plus_either a b (split (a + b) (2 ^ 63))
 
 -- ---- sums of words
 

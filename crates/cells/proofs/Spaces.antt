@@ -1,9 +1,7 @@
--- Spaces: one where nothing was done, and one after a loop; and the numbers of the fields.
+-- Spaces where nothing was done, and the numbers of the fields.
 -- Assumes nothing.
-use Rattle.std.specs.Prelude.{ℕ, zero, suc, ◌<◌, ◌≤◌, ◌≡◌, List, ℤ, refl}
-use Rattle.std.proofs.Common.{arith, sym, ◌∙◌}
-use Rattle.plain.specs.Turns.{times, Turned}
-use Rattle.plain.proofs.Turns.{finish}
+use Rattle.std.specs.Prelude.{◌<◌, ◌≡◌, List, ℤ, refl}
+use Rattle.std.proofs.Common.{arith, sym}
 use Rattle.cells.specs.declared.field.Field.{Field}
 use Rattle.cells.specs.declared.field.Field.TheVariants.{Pe, Len, Want, Elen, Degree, W, Next, Last, Head, HHead, HNext, HKey, Ord, Merges, Nv}
 use Rattle.cells.specs.Field.{field_number}
@@ -11,21 +9,6 @@ use Rattle.cells.specs.Space.{Space}
 
 pub still : (m : Space) (s : List ℤ) → m.scratch ≡ s → m ≡ record m { scratch = s }
 still m s e = rw (sym e) refl
-
-pub still_lists : (m : Space) (l : List ℤ) → m.lists ≡ l → m ≡ record m { lists = l }
-still_lists m l e = rw (sym e) refl
-
--- ---- a loop that changes the scratch alone
-
-module _ (f : ℕ → ℕ → List ℤ → List ℤ) (m : Space) where
-  times_scratch : (k : ℕ) → times k (λ e y. record y { scratch = f y.n e y.scratch }) m ≡ record m { scratch = times k (f m.n) m.scratch }
-  unfolding times
-  times_scratch zero = refl
-  times_scratch (suc k) = rw (times_scratch k) refl
-
-  pub turned_scratch : (x : Space) (k : ℕ) → Turned (λ e y. record y { scratch = f y.n e y.scratch }) m k x → (t : ℕ) → k ≤ t → t ≤ k
-      → x ≡ record m { scratch = times t (f m.n) m.scratch }
-  turned_scratch x k h t a b = finish _ m k x h t a b ∙ times_scratch t
 
 -- ---- the number of a field
 

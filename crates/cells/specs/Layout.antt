@@ -51,7 +51,7 @@ HEAD = 8
 abbrev pub HHEAD : ℕ
 HHEAD = 9
 
--- the variable before i with i's key; n is none. During a gather: the pivot's elements (`save` of `opening`), so nothing may rely on it between two pivots.
+-- the variable before i with i's key; n is none. Nothing may rely on it between two pivots.
 abbrev pub HNEXT : ℕ
 HNEXT = 10
 

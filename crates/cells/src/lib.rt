@@ -1,5 +1,6 @@
 // The memory of the ordering: cells of lent slices, read and written as unsigned numbers. The Rust's vectors are fields of the one scratch slice; where each
 // lies is known here alone. Where a caller shows no index, a read outside gives 0 and a store outside does nothing. The null link is n.
+// A number of a cell is below 2 ^ 63, and contracts say so where one is stored; a type for it would wrap each index, sum and comparison, and be no plainer.
 #![tactic(auto)]
 
 ghost use Rattle.std.specs.Prelude.{◌≡◌, ◌<◌, ◌^◌, length, replicate, pos};
@@ -11,7 +12,15 @@ pub use memory::Memory;
 mod field;
 mod memory;
 
-// ---- slices
+// A part of the list space.
+#[derive(Clone, Copy)]
+pub struct Part {
+    pub from: usize,
+    pub len: usize,
+}
+
+// ---- slices; `row_at` and `put32` read and store 32-bit numbers as memory.rt's `peek` and `poke` do 64-bit ones: a trait for both would be longer than they
+// are
 
 // Every cell 0.
 pub fn clear(l: &mut [i64])
@@ -24,10 +33,11 @@ pub fn clear(l: &mut [i64])
 fn natural(x: i64) -> usize
     ensures { (result ≡ nat x) × (result < 2 ^ 63) }
 {
-    if x < 0 { 0 } else { x as usize }
+    usize::try_from(x).unwrap_or(0)
 }
 
 // Number `i` of the slice; a negative one counts as 0, and so does one past the end.
+#[tactic(auto, unfolding(crate::specs::View::at))]
 pub fn row_at(rows: &[i32], i: usize) -> usize
     ensures { (result ≡ at rows.now i) × (result < 2 ^ 31) }
 {
@@ -39,6 +49,7 @@ pub fn row_at(rows: &[i32], i: usize) -> usize
 }
 
 // Is number `i` of the slice below 0?
+#[tactic(auto, unfolding(crate::specs::View::negative))]
 pub fn negative(rows: &[i32], i: usize) -> bool
     ensures { result ≡ negative rows.now i }
 {
@@ -46,6 +57,7 @@ pub fn negative(rows: &[i32], i: usize) -> bool
 }
 
 // Number `i` of the slice becomes `v`; nothing is done past the end.
+#[tactic(auto, unfolding(crate::specs::View::wr))]
 pub fn put32(out: &mut [i32], i: usize, v: usize)
     requires { v < 2 ^ 31 }
     ensures { out.new ≡ wr out.old i v }
@@ -58,9 +70,9 @@ pub fn put32(out: &mut [i32], i: usize, v: usize)
 // ---- sums
 
 // The sum, or the largest number that a cell holds.
+#[tactic(auto, unfolding(crate::specs::View::plus))]
 pub fn plus(a: usize, b: usize) -> usize
-    requires { (a < 2 ^ 63) × (b < 2 ^ 63) }
     ensures { (result ≡ plus a b) × (result < 2 ^ 63) }
 {
-    (a + b).min(0x7fff_ffff_ffff_ffff)
+    a.saturating_add(b).min(0x7fff_ffff_ffff_ffff)
 }

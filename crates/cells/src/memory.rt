@@ -1,19 +1,22 @@
 ghost use Rattle.std.specs.Prelude.{◌≡◌, ◌+◌, ◌-◌, ◌*◌, ◌<◌, ◌≤◌, ◌^◌, false, length, replicate, pos, get_or, set, unwrap_or, MatchOption, IfSome};
 ghost use Rattle.std.specs.Int.Signed.{mag};
 ghost use Rattle.std.proofs.Math.Option.{none, some};
-ghost use Rattle.cells.specs.View.{at, wr, rd, up, negative, place};
-ghost use Rattle.cells.specs.Rows.{clipped};
+ghost use Rattle.plain.specs.Turns.{times};
+ghost use Rattle.cells.specs.Layout.{COLUMN, ENTRY};
+ghost use Rattle.cells.specs.View.{Room, at, wr, rd, up, negative, place};
+ghost use Rattle.cells.specs.Rows.{Rows, clipped};
 ghost use Rattle.cells.specs.Links.{flipped, coded, decoded, named, parent, hang};
 ghost use Rattle.cells.specs.Field.{field_number};
 ghost use Rattle.cells.specs.Space.{Fits};
 
 use crate::field::Field;
-use crate::{clear, natural};
+use crate::{Part, clear, natural};
 use std::marker::Model;
 
 // ---- a cell of a slice
 
 // The number in cell `i`; a negative one counts as 0.
+#[tactic(auto, unfolding(crate::specs::View::at))]
 fn load(l: &[i64], i: usize) -> usize
     requires { i < length l.now }
     ensures { (result ≡ at l.now i) × (result < 2 ^ 63) }
@@ -22,6 +25,7 @@ fn load(l: &[i64], i: usize) -> usize
 }
 
 // The number in cell `i`, which is not negative.
+#[tactic(auto, unfolding(crate::specs::View::at, crate::specs::View::negative))]
 fn fetch(l: &[i64], i: usize) -> usize
     requires { (i < length l.now) × (negative l.now i ≡ false) }
     ensures { (result ≡ at l.now i) × (result < 2 ^ 63) }
@@ -31,6 +35,7 @@ fn fetch(l: &[i64], i: usize) -> usize
 }
 
 // Cell `i` becomes `v`.
+#[tactic(auto, unfolding(crate::specs::View::wr))]
 fn store(l: &mut [i64], i: usize, v: usize)
     requires { (i < length l.old) × (v < 2 ^ 63) }
     ensures { l.new ≡ wr l.old i v }
@@ -39,6 +44,7 @@ fn store(l: &mut [i64], i: usize, v: usize)
 }
 
 // The number in cell `i`; 0 where there is no such cell.
+#[tactic(auto, unfolding(crate::specs::View::at))]
 fn peek(l: &[i64], i: usize) -> usize
     ensures { (result ≡ at l.now i) × (result < 2 ^ 63) }
 {
@@ -46,6 +52,7 @@ fn peek(l: &[i64], i: usize) -> usize
 }
 
 // Cell `i` becomes `v`; nothing is done where there is no such cell.
+#[tactic(auto, unfolding(crate::specs::View::wr))]
 fn poke(l: &mut [i64], i: usize, v: usize)
     requires { v < 2 ^ 63 }
     ensures { l.new ≡ wr l.old i v }
@@ -73,7 +80,7 @@ fn store_signed(l: &mut [i64], i: usize, x: i64)
 
 // ---- a field's cell
 
-// The number of a field.
+// The number of a field: a cast is the language's own conversion of an enum without fields.
 fn number(field: Field) -> usize
     ensures { result ≡ field_number field }
 {
@@ -81,6 +88,7 @@ fn number(field: Field) -> usize
 }
 
 // The cell of a field of node `i`.
+#[tactic(auto, using(crate::proofs::Spaces::field_small), unfolding(crate::specs::View::place))]
 fn place(field: Field, n: usize, i: usize) -> usize
     requires { (i < n) × (16 * n + 16 < 2 ^ 60) }
     ensures { (result ≡ place n (field_number field) i) × (result < 16 * n + 16) }
@@ -95,7 +103,7 @@ fn place(field: Field, n: usize, i: usize) -> usize
 
 // ---- the signed coding of parent links
 
-// No parent, as the Rust has it.
+// No parent: the Rust's signed coding is a rule of the project.
 const EMPTY: i64 = -1;
 
 // -x - 2, a negation about EMPTY; written so that it fits for every number but the largest.
@@ -129,8 +137,9 @@ fn link_of(x: i64) -> Option<usize>
     }
 }
 
-/// The two workspaces of an ordering of `n` columns. Clauses see the number of columns and both as lists; every cell of the list space holds a row, and of the
-/// fields of the scratch the place of a list alone may be below 0, where it is a parent.
+/// The two workspaces of an ordering of `n` columns, as they are lent: fixed memory is a rule of the project, so the scratch is an arena of fields. Clauses see
+/// the number of columns and both as lists. Every cell of the list space holds a row, and of the fields of the scratch the place of a list alone may be below
+/// 0, where it is a parent. What ties a number to the memory (a row below n, a cell below the size) stays a clause: the number does not hold the memory.
 #[derive(Drop)]
 pub struct Memory<'a> {
     columns: usize,
@@ -151,7 +160,21 @@ impl<'a> Model for Memory<'a> {
 }
 
 impl<'a> Memory<'a> {
-    /// Both workspaces are cleared, whatever they were lent with.
+    /// Over both workspaces as they are: whatever functions on slices took, a memory can hold.
+    pub fn over(columns: usize, lists: &'a mut [i64], scratch: &'a mut [i64]) -> Self
+        requires room { Room columns scratch.old }
+        requires rows { Rows columns lists.old }
+        ensures { result ≡ record { n = columns; lists = lists.old; scratch = scratch.old } }
+    {
+        Memory {
+            columns,
+            rows: lists,
+            fields: scratch,
+        }
+    }
+
+    /// Over both workspaces, cleared, whatever they were lent with.
+    #[tactic(auto, using(crate::proofs::Fields::room_cleared, crate::proofs::Rows::rows_cleared))]
     pub fn new(columns: usize, lists: &'a mut [i64], scratch: &'a mut [i64]) -> Self
         requires some { 0 < columns }
         requires room { 16 * columns + 16 ≤ length scratch.old }
@@ -160,13 +183,10 @@ impl<'a> Memory<'a> {
     {
         clear(lists);
         clear(scratch);
-        Memory {
-            columns,
-            rows: lists,
-            fields: scratch,
-        }
+        Self::over(columns, lists, scratch)
     }
 
+    /// The number of columns, with what is true of every memory.
     pub fn columns(&self) -> usize
         ensures value { result ≡ self.now.n }
         ensures small { result < 2 ^ 56 }
@@ -184,14 +204,18 @@ impl<'a> Memory<'a> {
         self.rows.len()
     }
 
-    /// How many of the `k` cells from `p` on are there: a loop over them asks once.
-    pub fn clip(&self, p: usize, k: usize) -> usize
-        ensures { (result ≡ clipped (length self.now.lists) p k) × (result ≤ k) × (result ≤ length self.now.lists - p) × (length self.now.lists < 2 ^ 60) }
+    /// How many cells of a part are there: a loop over them asks once, and counts, since rows are read while fields are stored.
+    #[tactic(auto, unfolding(crate::specs::Rows::clipped))]
+    pub fn clip(&self, part: Part) -> usize
+        ensures clipped { result ≡ clipped (length self.now.lists) part.from part.len }
+        ensures within { (result ≤ part.len) × (result ≤ length self.now.lists - part.from) }
+        ensures bound { length self.now.lists < 2 ^ 60 }
     {
-        k.min(self.rows.len().saturating_sub(p))
+        part.len.min(self.rows.len().saturating_sub(part.from))
     }
 
     /// The row in cell `q`.
+    #[tactic(auto, using(crate::proofs::Rows::rows_low, crate::proofs::Rows::rows_calm))]
     pub fn row(&self, q: usize) -> usize
         requires { q < length self.now.lists }
         ensures read { (result ≡ at self.now.lists q) × (result < self.now.n) × (result < 2 ^ 63) }
@@ -201,6 +225,7 @@ impl<'a> Memory<'a> {
     }
 
     /// Cell `q` becomes row `v`.
+    #[tactic(auto, using(crate::proofs::Rows::rows_wr))]
     pub fn put_row(&mut self, q: usize, v: usize)
         requires { (q < length self.old.lists) × (v < self.old.n) }
         ensures put { self.new ≡ record self.old { lists = wr self.old.lists q v } }
@@ -210,6 +235,7 @@ impl<'a> Memory<'a> {
     }
 
     /// The same; nothing is done where there is no such cell.
+    #[tactic(auto, using(crate::proofs::Rows::rows_wr))]
     pub fn poke_row(&mut self, q: usize, v: usize)
         requires { v < self.old.n }
         ensures put { self.new ≡ record self.old { lists = wr self.old.lists q v } }
@@ -219,6 +245,7 @@ impl<'a> Memory<'a> {
     }
 
     /// Cell `e` becomes what cell `p` is.
+    #[tactic(auto, using(crate::proofs::Rows::rows_copy))]
     pub fn copy_row(&mut self, p: usize, e: usize)
         ensures put { self.new ≡ record self.old { lists = wr self.old.lists e (at self.old.lists p) } }
         ensures size { length self.new.lists ≡ length self.old.lists }
@@ -231,6 +258,7 @@ impl<'a> Memory<'a> {
     // ---- a field of the scratch
 
     /// The field of node `i`.
+    #[tactic(auto, using(crate::proofs::Spaces::field_small, crate::proofs::Spaces::field_above, crate::proofs::Steps::field_calm), unfolding(crate::specs::View::rd, crate::specs::View::within))]
     pub fn get(&self, field: Field, i: usize) -> usize
         requires { i < self.now.n }
         ensures read { (result ≡ rd self.now.n (field_number field) self.now.scratch i) × (result < 2 ^ 63) }
@@ -244,6 +272,7 @@ impl<'a> Memory<'a> {
     }
 
     /// The field of node `i` becomes `v`.
+    #[tactic(auto, using(crate::proofs::Spaces::field_small, crate::proofs::Steps::room_field), unfolding(crate::specs::View::up, crate::specs::View::within))]
     pub fn set(&mut self, field: Field, i: usize, v: usize)
         requires { (i < self.old.n) × (v < 2 ^ 63) }
         ensures { self.new ≡ record self.old { scratch = up self.old.n (field_number field) self.old.scratch i v } }
@@ -252,6 +281,7 @@ impl<'a> Memory<'a> {
     }
 
     /// The field of node `i`; 0 where `i` is not below `n`.
+    #[tactic(auto, using(crate::proofs::Spaces::field_small), unfolding(crate::specs::View::rd, crate::specs::View::within))]
     pub fn rd(&self, field: Field, i: usize) -> usize
         ensures read { (result ≡ rd self.now.n (field_number field) self.now.scratch i) × (result < 2 ^ 63) }
         ensures bound { self.now.n < 2 ^ 56 }
@@ -263,6 +293,7 @@ impl<'a> Memory<'a> {
     }
 
     /// The field of node `i` becomes `v`; nothing is done where `i` is not below `n`.
+    #[tactic(auto, using(crate::proofs::Spaces::field_small), unfolding(crate::specs::View::up, crate::specs::View::within))]
     pub fn up(&mut self, field: Field, i: usize, v: usize)
         requires { v < 2 ^ 63 }
         ensures { self.new ≡ record self.old { scratch = up self.old.n (field_number field) self.old.scratch i v } }
@@ -272,11 +303,23 @@ impl<'a> Memory<'a> {
         }
     }
 
+    /// The field of every node becomes `v`.
+    #[tactic(auto, using(plain::proofs::Turns::turns))]
+    pub fn fill(&mut self, field: Field, v: usize)
+        requires { v < 2 ^ 63 }
+        ensures { self.new ≡ record self.old { scratch = times self.old.n (λ i s. up self.old.n (field_number field) s i v) self.old.scratch } }
+    {
+        for node in 0..self.columns {
+            self.set(field, node, v);
+        }
+    }
+
     // ---- the cleaned pattern
 
     /// The pointer of column `k`; 0 where `k` is above `n`.
+    #[tactic(auto, using(crate::proofs::Steps::column_calm), unfolding(crate::specs::View::rd, crate::specs::View::within, crate::specs::View::place))]
     pub fn column(&self, k: usize) -> usize
-        ensures { (result ≡ rd self.now.n 15 self.now.scratch k) × (result < 2 ^ 63) }
+        ensures { (result ≡ rd self.now.n COLUMN self.now.scratch k) × (result < 2 ^ 63) }
     {
         if k <= self.columns {
             fetch(self.fields, 15 * self.columns + k)
@@ -286,9 +329,10 @@ impl<'a> Memory<'a> {
     }
 
     /// The pointer of column `k` becomes `v`; nothing is done where `k` is above `n`.
+    #[tactic(auto, using(crate::proofs::Steps::room_column), unfolding(crate::specs::View::up, crate::specs::View::within, crate::specs::View::place))]
     pub fn put_column(&mut self, k: usize, v: usize)
         requires { v < 2 ^ 63 }
-        ensures { self.new ≡ record self.old { scratch = up self.old.n 15 self.old.scratch k v } }
+        ensures { self.new ≡ record self.old { scratch = up self.old.n COLUMN self.old.scratch k v } }
     {
         if k <= self.columns {
             store(self.fields, 15 * self.columns + k, v);
@@ -296,8 +340,9 @@ impl<'a> Memory<'a> {
     }
 
     /// Row `p` of the pattern; 0 where there is no room for it.
+    #[tactic(auto, using(crate::proofs::Steps::entry_calm), unfolding(crate::specs::View::rd, crate::specs::View::within, crate::specs::View::place, crate::specs::View::at))]
     pub fn entry(&self, p: usize) -> usize
-        ensures { (result ≡ rd self.now.n 16 self.now.scratch p) × (result < 2 ^ 63) }
+        ensures { (result ≡ rd self.now.n ENTRY self.now.scratch p) × (result < 2 ^ 63) }
     {
         let from = 16 * self.columns + 16;
         if p < self.fields.len() - from {
@@ -308,9 +353,10 @@ impl<'a> Memory<'a> {
     }
 
     /// Row `p` of the pattern becomes `v`; nothing is done where there is no room for it.
+    #[tactic(auto, using(crate::proofs::Steps::room_entry), unfolding(crate::specs::View::up, crate::specs::View::within, crate::specs::View::place, crate::specs::View::wr))]
     pub fn put_entry(&mut self, p: usize, v: usize)
         requires { v < 2 ^ 63 }
-        ensures { self.new ≡ record self.old { scratch = up self.old.n 16 self.old.scratch p v } }
+        ensures { self.new ≡ record self.old { scratch = up self.old.n ENTRY self.old.scratch p v } }
     {
         let from = 16 * self.columns + 16;
         if p < self.fields.len() - from {
@@ -321,6 +367,7 @@ impl<'a> Memory<'a> {
     // ---- the signed coding of parent links
 
     /// The parent of object `i`.
+    #[tactic(auto, unfolding(crate::specs::Links::parent, crate::specs::View::place))]
     pub fn parent(&self, i: usize) -> Option<usize>
         ensures named { MatchOption result (parent self.now.n self.now.scratch i ≡ none) (λ p. parent self.now.n self.now.scratch i ≡ some p) }
         ensures small { IfSome result (λ p. p < 2 ^ 63) }
@@ -333,6 +380,7 @@ impl<'a> Memory<'a> {
     }
 
     /// Object `i` gets the parent `p`, or none where `p` is not below `n`.
+    #[tactic(auto, unfolding(crate::specs::Links::hang, crate::specs::View::place))]
     pub fn set_parent(&mut self, i: usize, p: Option<usize>)
         requires { i < self.old.n }
         ensures { self.new ≡ record self.old { scratch = hang self.old.n self.old.scratch i (named self.old.n (unwrap_or p self.old.n)) } }
@@ -341,6 +389,7 @@ impl<'a> Memory<'a> {
     }
 
     /// The same; nothing is done where `i` is not below `n`.
+    #[tactic(auto, unfolding(crate::specs::Links::hang))]
     pub fn put_parent(&mut self, i: usize, p: Option<usize>)
         ensures { self.new ≡ record self.old { scratch = hang self.old.n self.old.scratch i (named self.old.n (unwrap_or p self.old.n)) } }
     {

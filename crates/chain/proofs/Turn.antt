@@ -1,6 +1,6 @@
 -- The turns of the search for a pivot.
 -- Assumes nothing.
-use Prim.Native.Nat.{ℕ, ◌+◌, ◌<◌, ◌≤◌}
+use Prim.Native.Nat.{ℕ, ◌+◌, ◌<◌, ◌≤◌, max}
 use native.Mathlib.Omega.{arith}
 use mathlib.Core.Path.{◌≡◌, refl, sym, subst}
 use mathlib.Core.Logic.{⊎_elim}
@@ -29,8 +29,10 @@ module _ (n : ℕ) (s : List ℤ) (m : ℕ) where
               ⊎_elim (λ q. subst (λ (x : ℕ). n ≤ rd n HEAD s x) (sym q) (omega arith)) (λ q. h.none e a (omega arith)) (same? e d);
         }
 
-    pub nothing : n ≤ d → First n s m n d
-    nothing q = record { from = h.low; none = h.none; here = λ z. absurd (omega arith); nowhere = λ z. (refl, q) }
+    pub nothing : n ≤ d → d ≤ max m n → First n s m n (max m n)
+    nothing q b =
+        let e : max m n ≡ d = omega (arith, h.low) in
+        rw e (record { from = h.low; none = h.none; here = λ z. absurd (omega arith); nowhere = λ z. (refl, q) })
 
     pub found : (i : ℕ) → i ≡ rd n HEAD s d → i < n → d < n → First n s m i d
     found i hi hn hd = record { from = h.low; none = h.none; here = λ z. (hd, hi); nowhere = λ z. absurd (omega arith) }

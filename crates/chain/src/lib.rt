@@ -1,8 +1,9 @@
-// The degree lists of the elimination: doubly linked, one for each degree, in the fields HEAD, NEXT, LAST and DEGREE of the scratch. The null link is n, where a
-// store does nothing. Nothing here asks for lists that make sense: a contract is the function's own model, and the laws of `proofs/` say what it does to the lists.
+// The degree lists of the elimination: doubly linked, one for each degree, in the fields HEAD, NEXT, LAST and DEGREE of the scratch. The null link is n, where
+// a store does nothing: so the models (`relinked`, `headed`) and the theorems on them have it, and no Option. Nothing here asks for lists that make sense: a
+// contract is the function's own model, and the laws of `proofs/` say what it does to the lists.
 #![tactic(auto)]
 
-ghost use Rattle.std.specs.Prelude.{◌≡◌, ◌<◌, ◌≤◌, ◌^◌, ℕ, IfSome, IfNone};
+ghost use Rattle.std.specs.Prelude.{◌≡◌, ◌<◌, ◌^◌, max, IfSome, IfNone};
 ghost use Rattle.chain.specs.Model.{relinked, removed, headed, pushed, emptied, enlisted_one, enlisted_all};
 ghost use Rattle.chain.specs.First.{First};
 
@@ -65,12 +66,12 @@ pub fn put_front(m: &mut Memory, d: usize, i: usize)
     m.up(Field::Last, front, i);
 }
 
-// The front of the first list at or after the degree `least` that has one, and its degree.
+// The front of the first list at or after the degree `least` that has one, and its degree. The search yields them by `break`: the user named this form.
 pub fn find_pivot(m: &Memory, least: usize) -> Option<Pivot>
     ensures first { IfSome result (λ p. First m.now.n m.now.scratch least p.me p.degree) }
     ensures row { IfSome result (λ p. p.me < m.now.n) }
     ensures degree { IfSome result (λ p. p.degree < 2 ^ 63) }
-    ensures none { IfNone result ((d : ℕ) × First m.now.n m.now.scratch least m.now.n d) }
+    ensures none { IfNone result (First m.now.n m.now.scratch least m.now.n (max least m.now.n)) }
 {
     let n = m.columns();
     let mut d = least;
@@ -90,29 +91,24 @@ pub fn find_pivot(m: &Memory, least: usize) -> Option<Pivot>
 }
 
 // No list has a front.
-#[tactic(auto, using(plain::proofs::Turns::turns), unfolding(crate::specs::Model::emptied))]
+#[tactic(auto, unfolding(crate::specs::Model::emptied))]
 fn empty_lists(m: &mut Memory)
     ensures { m.new ≡ record m.old { scratch = emptied m.old.n m.old.scratch } }
 {
     let n = m.columns();
-    for d in 0..n {
-        m.set(Field::Head, d, n);
-    }
+    m.fill(Field::Head, n);
 }
 
-// Puts row `i` to the front of the list of its length: a row of length 0 and a row longer than the limit go into no list, and there is none for a row as long as `n`.
+// Puts row `i` to the front of the list of its length: a row of length 0 and a row longer than the limit go into no list, and there is none for a row as long
+// as `n`.
 #[tactic(auto, unfolding(crate::specs::Model::enlisted_one))]
 fn enlist(m: &mut Memory, limit: usize, i: usize)
     requires { i < m.old.n }
     ensures { m.new ≡ record m.old { scratch = enlisted_one m.old.n limit i m.old.scratch } }
 {
     let d = m.get(Field::Len, i);
-    if 0 < d {
-        if d <= limit {
-            if d < m.columns() {
-                put_front(m, d, i);
-            }
-        }
+    if 0 < d && d <= limit && d < m.columns() {
+        put_front(m, d, i);
     }
 }
 

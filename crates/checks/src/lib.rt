@@ -41,7 +41,7 @@ pub fn outputs_wrong(n: usize, permutation: usize, inverse: usize) -> bool
     permutation != n || inverse != n
 }
 
-// ---- the room
+// ---- the room: two formulas, no twins; that n and nnz are within the limits stays a clause, since `room_wrong` is public and takes them as two numbers
 
 // The cells of lists that n columns and nnz entries need.
 #[tactic(auto, unfolding(definition::specs::Limits::base_limits, definition::specs::Limits::lists_room))]

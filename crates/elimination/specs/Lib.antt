@@ -1,3 +1,5 @@
 -- The definitions that the contracts of `elimination` cite.
+pub mod Met
+pub mod Turn
 pub mod Model
 pub mod Runs

@@ -1,6 +1,6 @@
 -- What each function does to the memory: the code's own steps, as functions. The laws of `proofs/` say what these mean for the graph.
 -- Assumes nothing.
-use Rattle.std.specs.Prelude.{ℕ, ◌-◌, ◌<◌, ◌^◌, max, Bool, cond, List, ltb, ℤ}
+use Rattle.std.specs.Prelude.{ℕ, ◌-◌, max, Bool, cond, List, ltb, ℤ}
 use Rattle.definition.specs.Outcome as Outcomes
 use Rattle.numbers.specs.Gains.{added_element, counted}
 use Rattle.cells.specs.Layout.{DEGREE, NV}
@@ -16,23 +16,6 @@ use Rattle.opening.specs.Begin.{pivoted}
 use Rattle.elimination.specs.declared.Met.{Met}
 use Rattle.elimination.specs.declared.Reduced.{Reduced}
 use Rattle.elimination.specs.declared.Turn.{Turn}
-
--- numbers that a cell can hold
-pub record Small (t : Turn) : Type 0 where
-  pub gone : t.gone < 2 ^ 63
-  pub least : t.least < 2 ^ 63
-  pub flag : t.flag < 2 ^ 63
-  pub most : t.most < 2 ^ 63
-  pub merges : t.merges < 2 ^ 63
-  pub free : t.free < 2 ^ 63
-  pub made : t.made < 2 ^ 63
-  pub collections : t.collections < 2 ^ 63
-
-pub record Few (x : Met) : Type 0 where
-  pub size : x.size < 2 ^ 63
-  pub most : x.most < 2 ^ 63
-  pub flag : x.flag < 2 ^ 63
-  pub merges : x.merges < 2 ^ 63
 
 -- ---- steps 3 to 5
 

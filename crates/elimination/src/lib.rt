@@ -5,19 +5,21 @@
 ghost use Rattle.std.specs.Prelude.{◌≡◌, ◌<◌, ◌^◌};
 ghost use Rattle.cells.specs.View.{plus};
 ghost use Rattle.cells.specs.Space.{SameSize};
-ghost use Rattle.packed.specs.Gather.{Brief};
 ghost use Rattle.numbers.specs.Meaning.{statistics_meant};
-ghost use Rattle.elimination.specs.Model.{Small, Few, reduction, reduced, meeting, met, free_end, placement, placed, left_of, next_turn, stage, settled, ended, pivot_step, element_counted, first_turn, closed};
+ghost use Rattle.elimination.specs.Model.{reduction, reduced, meeting, met, free_end, placement, placed, left_of, next_turn, stage, settled, ended, pivot_step, element_counted, first_turn, closed};
 ghost use Rattle.elimination.specs.Runs.{Turned, Ran, Whole};
 
-use cells::{Field, Memory};
+use cells::{Field, Memory, Part};
+use chain::Pivot;
 use merging::Tally;
 use numbers::Statistics;
 use packed::Made;
 use placing::Restored;
+use std::marker::Model;
 
 // What a pivot takes over from the one before: how many variables are gone, the least degree, the flag, the largest remaining weight of an element, the merges
-// in the log, where the elements made at the free end begin, the free end, how many are made there, and the collections so far.
+// in the log, where the elements made at the free end begin, the free end, how many are made there, and the collections so far. All but `base` are numbers of
+// a cell.
 #[derive(Clone, Copy)]
 pub struct Turn {
     pub gone: usize,
@@ -31,6 +33,18 @@ pub struct Turn {
     pub collections: usize,
 }
 
+impl Model for Turn {
+    ghost use Rattle.elimination.specs.Turn.{Progress, Small};
+
+    ghost Value = { Progress };
+
+    ghost view = { λ t. record { gone = t.gone; least = t.least; flag = t.flag; most = t.most; merges = t.merges; base = t.base; free = t.free; made = t.made; collections = t.collections } };
+
+    ghost invariant = { λ t. Small (record { gone = t.gone; least = t.least; flag = t.flag; most = t.most; merges = t.merges; base = t.base; free = t.free; made = t.made; collections = t.collections }) };
+
+    ghost inverse = { λ v. record { gone = v.gone; least = v.least; flag = v.flag; most = v.most; merges = v.merges; base = v.base; free = v.free; made = v.made; collections = v.collections } };
+}
+
 // ---- steps 3 to 5
 
 // The weight of the new element without the rows eliminated with the pivot, and how many merges are logged.
@@ -40,44 +54,44 @@ pub struct Reduced {
     pub merges: usize,
 }
 
-// Steps 3 and 4 for the new element of `me`, in the `k` cells of the lists from `from` on.
+// Steps 3 and 4 for the new element of `me`, in the part of the lists. `aggressive` is a setting, read at one test (`trimming::Rule::swallows`): a closure
+// for it would be no plainer.
 #[tactic(auto, unfolding(crate::specs::Model::reduced, crate::specs::Model::trimmed_rows))]
 fn reduce(
     m: &mut Memory,
     me: usize,
-    from: usize,
-    k: usize,
+    part: Part,
     aggressive: bool,
     flag: usize,
     merges: usize,
 ) -> Reduced
-    requires { (me < m.old.n) × (from < 2 ^ 63) × (k < 2 ^ 63) × (flag < 2 ^ 63) × (merges < 2 ^ 63) }
-    ensures reduced { reduction m.new.lists m.new.scratch result ≡ reduced m.old.n me from k aggressive flag merges m.old.lists m.old.scratch }
+    requires { (me < m.old.n) × (flag < 2 ^ 63) × (merges < 2 ^ 63) }
+    ensures reduced { reduction m.new.lists m.new.scratch result ≡ reduced m.old.n me part.from part.len aggressive flag merges m.old.lists m.old.scratch }
     ensures size { SameSize m.old m.new }
     ensures small { (result.size < 2 ^ 63) × (result.merges < 2 ^ 63) }
 {
-    let all = sizing::size_all(m, from, k, flag);
+    let all = sizing::size_all(m, part, flag);
     let rule = trimming::Rule {
         me,
         flag,
         aggressive,
     };
-    let t = trimming::update_all(m, rule, from, k, merges);
+    let t = trimming::update_all(m, rule, part, merges);
     Reduced {
         size: all.saturating_sub(t.weight),
         merges: t.made,
     }
 }
 
-// A flag that no counter of step 3 reaches: a counter is the flag and at most the largest weight of an element.
+// A flag that no counter of step 3 reaches: a counter is the flag and at most the largest weight of an element. The sum has a name, as the edit
+// `flag_not_raised` turns it.
 fn raise_flag(flag: usize, most: usize) -> usize
-    requires { (flag < 2 ^ 63) × (most < 2 ^ 63) }
     ensures { (result ≡ plus flag most) × (result < 2 ^ 63) }
 {
     cells::plus(flag, most)
 }
 
-// The weight of the new element, and what it makes of the numbers that the next pivot takes over.
+// The weight of the new element, and what it makes of the numbers that the next pivot takes over: all are numbers of a cell.
 #[derive(Clone, Copy)]
 pub struct Met {
     pub size: usize,
@@ -86,21 +100,32 @@ pub struct Met {
     pub merges: usize,
 }
 
+impl Model for Met {
+    ghost use Rattle.elimination.specs.Met.{Effects, Few};
+
+    ghost Value = { Effects };
+
+    ghost view = { λ x. record { size = x.size; most = x.most; flag = x.flag; merges = x.merges } };
+
+    ghost invariant = { λ x. Few (record { size = x.size; most = x.most; flag = x.flag; merges = x.merges }) };
+
+    ghost inverse = { λ v. record { size = v.size; most = v.most; flag = v.flag; merges = v.merges } };
+}
+
 // Steps 3 to 5. The flag rises above every counter of step 3 before step 5 marks with it.
 #[tactic(auto, unfolding(crate::specs::Model::met, crate::specs::Model::compared))]
-fn meet(m: &mut Memory, me: usize, from: usize, k: usize, aggressive: bool, t: Turn) -> Met
-    requires { (me < m.old.n) × (from < 2 ^ 63) × (k < 2 ^ 63) × Small t }
-    ensures met { meeting m.new.lists m.new.scratch result ≡ met m.old.n me from k aggressive t m.old.lists m.old.scratch }
+fn meet(m: &mut Memory, me: usize, part: Part, aggressive: bool, t: Turn) -> Met
+    requires { me < m.old.n }
+    ensures met { meeting m.new.lists m.new.scratch result ≡ met m.old.n me part.from part.len aggressive t m.old.lists m.old.scratch }
     ensures size { SameSize m.old m.new }
-    ensures few { Few result }
 {
-    let r = reduce(m, me, from, k, aggressive, t.flag, t.merges);
+    let r = reduce(m, me, part, aggressive, t.flag, t.merges);
     let most = t.most.max(r.size);
     let start = Tally {
         flag: raise_flag(t.flag, most),
         logged: r.merges,
     };
-    let w = merging::merge_all(m, from, k, start);
+    let w = merging::merge_all(m, part, start);
     Met {
         size: r.size,
         most,
@@ -111,10 +136,10 @@ fn meet(m: &mut Memory, me: usize, from: usize, k: usize, aggressive: bool, t: T
 
 // ---- step 6
 
-// The free end after an element that was made there, if it was, with `count` rows left.
+// The free end after a new element of which `count` rows are left. That it was made there is told by the elements made, one more than the `made` before: the
+// model has it so.
 #[tactic(auto, unfolding(crate::specs::Model::free_end))]
 fn free_end(new: Made, made: usize, count: usize) -> usize
-    requires { Brief new × (count < 2 ^ 63) }
     ensures { (result ≡ free_end new made count) × (result < 2 ^ 63) }
 {
     if made < new.made {
@@ -124,16 +149,20 @@ fn free_end(new: Made, made: usize, count: usize) -> usize
     }
 }
 
-// The survivors of the new element are placed, `left` variables being left, and the pivot `me`, found at degree `d`, becomes the element.
+// The survivors of the new element are placed, `left` variables being left, and the pivot becomes the element.
 #[tactic(auto, unfolding(crate::specs::Model::placed))]
-fn place(m: &mut Memory, me: usize, d: usize, new: Made, size: usize, left: usize) -> Restored
-    requires { (me < m.old.n) × (d < 2 ^ 63) × Brief new × (size < 2 ^ 63) × (left < m.old.n) }
-    ensures placed { placement m.new.lists m.new.scratch result ≡ placed m.old.n me d new size left m.old.lists m.old.scratch }
+fn place(m: &mut Memory, p: Pivot, new: Made, size: usize, left: usize) -> Restored
+    requires { (p.me < m.old.n) × (p.degree < 2 ^ 63) × (size < 2 ^ 63) × (left < m.old.n) }
+    ensures placed { placement m.new.lists m.new.scratch result ≡ placed m.old.n p.me p.degree new size left m.old.lists m.old.scratch }
     ensures size { SameSize m.old m.new }
     ensures small { (result.count < 2 ^ 63) × (result.least < 2 ^ 63) }
 {
-    let r = placing::restore(m, size, left, new.start, new.count, d);
-    placing::finish_element(m, me, size, r.count);
+    let part = Part {
+        from: new.start,
+        len: new.count,
+    };
+    let r = placing::restore(m, size, left, part, p.degree);
+    placing::finish_element(m, p.me, size, r.count);
     r
 }
 
@@ -149,8 +178,8 @@ fn count_left(n: usize, gone: usize) -> usize
 // The numbers of the next turn.
 #[tactic(auto, unfolding(crate::specs::Model::next_turn))]
 fn next_turn(gone: usize, least: usize, free: usize, collections: usize, new: Made, x: Met) -> Turn
-    requires { (gone < 2 ^ 63) × (least < 2 ^ 63) × (free < 2 ^ 63) × (collections < 2 ^ 63) × Brief new × Few x }
-    ensures { (result ≡ next_turn gone least free collections new x) × Small result }
+    requires { (gone < 2 ^ 63) × (least < 2 ^ 63) × (free < 2 ^ 63) × (collections < 2 ^ 63) }
+    ensures { result ≡ next_turn gone least free collections new x }
 {
     Turn {
         gone,
@@ -165,16 +194,15 @@ fn next_turn(gone: usize, least: usize, free: usize, collections: usize, new: Ma
     }
 }
 
-// Step 6 for the pivot `me`, found at degree `d`, with its new element; `gone` variables are gone then.
+// Step 6 for the pivot, with its new element; `gone` variables are gone then.
 #[tactic(auto, unfolding(crate::specs::Model::settled))]
-fn settle(m: &mut Memory, me: usize, d: usize, new: Made, x: Met, t: Turn, gone: usize) -> Turn
-    requires { (me < m.old.n) × (d < 2 ^ 63) × Brief new × Few x × Small t × (gone < 2 ^ 63) }
-    ensures settled { stage m.new.lists m.new.scratch result ≡ settled m.old.n me d new x t gone m.old.lists m.old.scratch }
+fn settle(m: &mut Memory, p: Pivot, new: Made, x: Met, t: Turn, gone: usize) -> Turn
+    requires { (p.me < m.old.n) × (p.degree < 2 ^ 63) × (gone < 2 ^ 63) }
+    ensures settled { stage m.new.lists m.new.scratch result ≡ settled m.old.n p.me p.degree new x t gone m.old.lists m.old.scratch }
     ensures size { SameSize m.old m.new }
-    ensures small { Small result }
 {
     let left = count_left(m.columns(), gone);
-    let r = place(m, me, d, new, x.size, left);
+    let r = place(m, p, new, x.size, left);
     let free = free_end(new, t.made, r.count);
     let collections = cells::plus(t.collections, new.collected);
     next_turn(gone, r.least, free, collections, new, x)
@@ -182,36 +210,46 @@ fn settle(m: &mut Memory, me: usize, d: usize, new: Made, x: Met, t: Turn, gone:
 
 // The same, where the pivot has all of its pivots in NV.
 #[tactic(auto, unfolding(crate::specs::Model::ended))]
-fn end_pivot(m: &mut Memory, me: usize, d: usize, new: Made, x: Met, t: Turn) -> Turn
-    requires { (me < m.old.n) × (d < 2 ^ 63) × Brief new × Few x × Small t }
-    ensures ended { stage m.new.lists m.new.scratch result ≡ ended m.old.n me d new x t m.old.lists m.old.scratch }
+fn end_pivot(m: &mut Memory, p: Pivot, new: Made, x: Met, t: Turn) -> Turn
+    requires { (p.me < m.old.n) × (p.degree < 2 ^ 63) }
+    ensures ended { stage m.new.lists m.new.scratch result ≡ ended m.old.n p.me p.degree new x t m.old.lists m.old.scratch }
     ensures size { SameSize m.old m.new }
-    ensures small { Small result }
 {
-    let pivots = m.get(Field::Nv, me);
+    let pivots = m.get(Field::Nv, p.me);
     let gone = cells::plus(t.gone, pivots);
-    settle(m, me, d, new, x, t, gone)
+    settle(m, p, new, x, t, gone)
 }
 
 // ---- one pivot
 
-// Steps 2 to 6 for the pivot `me`, found at degree `d`.
+// Steps 2 to 6 for the pivot.
 #[tactic(auto, unfolding(crate::specs::Model::pivot_step))]
-fn eliminate_pivot(m: &mut Memory, me: usize, d: usize, aggressive: bool, t: Turn) -> Turn
-    requires { (me < m.old.n) × (d < 2 ^ 63) × Small t }
-    ensures step { stage m.new.lists m.new.scratch result ≡ pivot_step m.old.n me d aggressive t m.old.lists m.old.scratch }
+fn eliminate_pivot(m: &mut Memory, p: Pivot, aggressive: bool, t: Turn) -> Turn
+    requires { (p.me < m.old.n) × (p.degree < 2 ^ 63) }
+    ensures step { stage m.new.lists m.new.scratch result ≡ pivot_step m.old.n p.me p.degree aggressive t m.old.lists m.old.scratch }
     ensures size { SameSize m.old m.new }
-    ensures small { Small result }
 {
-    let new = opening::begin_pivot(m, me, t.base, t.free, t.made);
-    let x = meet(m, me, new.start, new.count, aggressive, t);
-    end_pivot(m, me, d, new, x, t)
+    let new = opening::begin_pivot(
+        m,
+        p.me,
+        packed::Extent {
+            base: t.base,
+            free: t.free,
+            made: t.made,
+        },
+    );
+    let part = Part {
+        from: new.start,
+        len: new.count,
+    };
+    let x = meet(m, p.me, part, aggressive, t);
+    end_pivot(m, p, new, x, t)
 }
 
 // With what the finished element `me` adds, where `dense` rows are dense.
 #[tactic(auto, unfolding(crate::specs::Model::element_counted))]
 fn count_element(m: &Memory, me: usize, dense: usize, x: Statistics) -> Statistics
-    requires { (me < m.now.n) × (dense < 2 ^ 63) }
+    requires { me < m.now.n }
     ensures { statistics_meant result ≡ element_counted m.now.n me dense m.now.scratch (statistics_meant x) }
 {
     let f = m.get(Field::Nv, me);
@@ -231,14 +269,12 @@ pub struct Work {
 // One pivot, if there is one: steps 1 to 6, and what its element adds.
 #[tactic(auto, using(crate::proofs::Steps::turned_is, crate::proofs::Steps::turned_none))]
 fn take_turn(m: &mut Memory, aggressive: bool, dense: usize, w: Work) -> Work
-    requires { (dense < 2 ^ 63) × Small w.turn }
     ensures turned { Turned m.old.n aggressive dense m.old.lists m.old.scratch w m.new.lists m.new.scratch result }
     ensures size { SameSize m.old m.new }
-    ensures small { Small result.turn }
 {
     match chain::find_pivot(m, w.turn.least) {
         Some(p) => {
-            let turn = eliminate_pivot(m, p.me, p.degree, aggressive, w.turn);
+            let turn = eliminate_pivot(m, p, aggressive, w.turn);
             let statistics = count_element(m, p.me, dense, w.statistics);
             Work { turn, statistics }
         }
@@ -249,10 +285,8 @@ fn take_turn(m: &mut Memory, aggressive: bool, dense: usize, w: Work) -> Work
 // Turn after turn until all variables are gone: each takes one at least, so n are enough.
 #[tactic(auto, using(crate::proofs::Steps::run_turns))]
 fn eliminate_all(m: &mut Memory, aggressive: bool, dense: usize, start: Work) -> Work
-    requires { (dense < 2 ^ 63) × Small start.turn }
     ensures ran { Ran m.old.n aggressive dense m.old.n m.old.lists m.old.scratch start m.new.lists m.new.scratch result }
     ensures size { SameSize m.old m.new }
-    ensures small { Small result.turn }
 {
     let n = m.columns();
     let mut w = start;
@@ -268,8 +302,8 @@ fn eliminate_all(m: &mut Memory, aggressive: bool, dense: usize, start: Work) ->
 // The numbers of the first turn: roots and dense rows are set aside, and the lists are packed up to `free`.
 #[tactic(auto, unfolding(crate::specs::Model::first_turn))]
 fn first_turn(roots: usize, dense: usize, free: usize) -> Turn
-    requires { (roots < 2 ^ 63) × (dense < 2 ^ 63) × (free < 2 ^ 63) }
-    ensures { (result ≡ first_turn (plus roots dense) free) × Small result }
+    requires { free < 2 ^ 63 }
+    ensures { result ≡ first_turn (plus roots dense) free }
 {
     let gone = cells::plus(roots, dense);
     Turn {

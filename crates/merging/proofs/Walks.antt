@@ -21,7 +21,7 @@ use Rattle.cells.specs.Rows.{clipped}
 use Rattle.cells.specs.View.{at, rd}
 use Rattle.merging.specs.Model.{Comparing, Merging, all_marked, bucket_run, compared, comparing, followers, has_mark, merged_at, merged_into, merging}
 use Rattle.merging.specs.declared.Tally.{Tally}
-use Rattle.merging.specs.declared.Walk.{Walk}
+use Rattle.merging.specs.declared.Trail.{Trail}
 
 -- ---- the entries of a comparison
 
@@ -90,8 +90,8 @@ module _ (l : List ℤ) (n i len elen flag k : ℕ) (m₀ : Comparing) where
   unfolding followers
   next_turn_lem c m a b = let e : k - c ≡ suc (k - (c + 1)) = omega arith in rw (e, lt-ltb m.walk.next n b)
 
-  pub walk_more : (c : ℕ) (s : List ℤ) (w : Walk) → Walking l n i len elen flag k m₀ c (comparing s w)
-      → (r : List ℤ) (v : Walk) → comparing r v ≡ compared l n i len elen flag (comparing s w) → c < k → w.next < n → Walking l n i len elen flag k m₀ (c + 1) (comparing r v)
+  pub walk_more : (c : ℕ) (s : List ℤ) (w : Trail) → Walking l n i len elen flag k m₀ c (comparing s w)
+      → (r : List ℤ) (v : Trail) → comparing r v ≡ compared l n i len elen flag (comparing s w) → c < k → w.next < n → Walking l n i len elen flag k m₀ (c + 1) (comparing r v)
   walk_more c s w h r v e a b = record { same = rw e (h.same ∙ next_turn_lem c (comparing s w) a b) }
 
 pub at_end : (l : List ℤ) (n i len elen flag k : ℕ) (m : Comparing) → n ≤ m.walk.next → followers l n i len elen flag k m ≡ m
@@ -103,7 +103,7 @@ at_last : (l : List ℤ) (n i len elen flag k : ℕ) (m : Comparing) → k ≡ 0
 unfolding followers
 at_last l n i len elen flag k m h = rw h
 
-module _ (l : List ℤ) (n k i x : ℕ) (s : List ℤ) (t : Tally) (len elen : ℕ) (hl : len ≡ rd n LEN s i) (he : elen ≡ rd n ELEN s i) (c : ℕ) (r : List ℤ) (w : Walk)
+module _ (l : List ℤ) (n k i x : ℕ) (s : List ℤ) (t : Tally) (len elen : ℕ) (hl : len ≡ rd n LEN s i) (he : elen ≡ rd n ELEN s i) (c : ℕ) (r : List ℤ) (w : Trail)
     (h : Walking l n i len elen t.flag k (comparing s (record { last = i; next = x; logged = t.logged })) c (comparing r w)) where
   whole : followers l n i len elen t.flag (k - c) (comparing r w) ≡ comparing r w → merging r (record { flag = t.flag; logged = w.logged }) ≡ merged_into l n k i x (merging s t)
   unfolding merged_into

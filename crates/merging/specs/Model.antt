@@ -8,7 +8,7 @@ use Rattle.cells.specs.Links.{hang, named}
 use Rattle.cells.specs.Rows.{clipped}
 use Rattle.cells.specs.View.{at, plus, rd, up}
 use Rattle.merging.specs.declared.Tally.{Tally}
-use Rattle.merging.specs.declared.Walk.{Walk}
+use Rattle.merging.specs.declared.Trail.{Trail}
 
 -- ---- marks
 
@@ -58,7 +58,7 @@ joined n s i j log = up n MERGES (left n (weighed n s i j) i j) log j
 -- ---- a bucket
 
 -- the walk stands behind a row, and its numbers fit a cell
-pub record Slight (n : ℕ) (w : Walk) : Type 0 where
+pub record Slight (n : ℕ) (w : Trail) : Type 0 where
   pub last : w.last < n
   pub next : w.next < 2 ^ 63
   pub logged : w.logged < 2 ^ 63
@@ -66,9 +66,9 @@ pub record Slight (n : ℕ) (w : Walk) : Type 0 where
 -- the scratch, and where the walk stands
 pub record Comparing : Type 0 where
   pub mem : List ℤ
-  pub walk : Walk
+  pub walk : Trail
 
-abbrev pub comparing : List ℤ → Walk → Comparing
+abbrev pub comparing : List ℤ → Trail → Comparing
 comparing s w = record { mem = s; walk = w }
 
 -- the scratch, and the numbers beside it

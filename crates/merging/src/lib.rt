@@ -1,21 +1,24 @@
 // Step 5 of a pivot: the rows of the new element that have one key stand in one bucket, linked newest first; of those, each is compared with the ones behind
 // it, and takes those that have its list. A walk along links makes at most as many turns as the new element has rows, so that it ends in any memory.
 // Nothing here asks for a memory that makes sense: a contract is the function's own model, and the laws of `proofs/` say what it does to the graph.
+// The null link is n, where a store does nothing: so the models (`followers`, `bucket_run`, `taken_next`) and the theorems on them have it, and no Option.
+// `k`, the most turns, goes beside a tally, not into it: it is one for all walks, a tally is handed out, and the theorems on tallies (`Merging`) have none.
 #![tactic(auto)]
 
 ghost use Rattle.std.specs.Prelude.{◌≡◌, ◌<◌, ◌^◌, length};
 ghost use Rattle.cells.specs.Layout.{W};
 ghost use Rattle.cells.specs.Space.{SameLists};
 ghost use Rattle.cells.specs.View.{at, up};
-ghost use Rattle.merging.specs.Model.{Slight, comparing, merging, marking, marked_list, all_marked, tail_marked, same_elements, alike_now, weighed, left};
+ghost use Rattle.merging.specs.Model.{Slight, comparing, merging, marking, marked_list, all_marked, tail_marked, same_elements, alike_now};
 ghost use Rattle.merging.specs.Model.{joined, taken_next, compared, merged_into, merged_at, bucket_run, merged_key, merged_row, merged_rows};
 
-use cells::{Field, Memory};
+use cells::{Field, Memory, Part};
 use std::marker::Model;
 
-// Where a walk along a bucket stands: the row before the next one, the next one, and how many merges are logged.
+// Where a walk along a bucket stands: the row before the next one, the next one, and how many merges are logged. What bounds them (`Slight`) stays a clause:
+// it ties a trail to n, which the trail does not hold.
 #[derive(Clone, Copy)]
-pub struct Walk {
+pub struct Trail {
     pub last: usize,
     pub next: usize,
     pub logged: usize,
@@ -60,14 +63,14 @@ fn mark_one(m: &mut Memory, q: usize, flag: usize)
     m.set(Field::W, x, flag);
 }
 
-// The rows in the `k` cells from `p` on, as far as they are there, are marked.
+// The rows in a part of the lists, as far as it is there, are marked.
 #[tactic(auto, unfolding(plain::specs::Turns::times, cells::specs::Rows::clipped, crate::specs::Model::marking))]
-fn mark_part(m: &mut Memory, p: usize, k: usize, flag: usize)
+fn mark_part(m: &mut Memory, part: Part, flag: usize)
     requires { flag < 2 ^ 63 }
-    ensures { m.new ≡ record m.old { scratch = marking m.old.lists m.old.n flag p k m.old.scratch } }
+    ensures { m.new ≡ record m.old { scratch = marking m.old.lists m.old.n flag part.from part.len m.old.scratch } }
 {
-    for t in 0..m.clip(p, k) {
-        mark_one(m, p + t, flag);
+    for t in 0..m.clip(part) {
+        mark_one(m, part.from + t, flag);
     }
 }
 
@@ -80,21 +83,25 @@ fn mark_entries(m: &mut Memory, i: usize, flag: usize)
 {
     let p = m.get(Field::Pe, i);
     let k = m.get(Field::Len, i);
-    mark_part(m, p + 1, k.saturating_sub(1), flag);
+    let entries = Part {
+        from: p + 1,
+        len: k.saturating_sub(1),
+    };
+    mark_part(m, entries, flag);
 }
 
 // ---- the comparison
 
-// Are the rows in the `k` cells from `p` on, as far as they are there, all marked?
+// Are the rows in a part of the lists, as far as it is there, all marked?
 // The labelled exit stays: the user named this form for the comparison of rows.
 #[tactic(auto, using(crate::proofs::Walks::mark_turns))]
-fn all_marked(m: &Memory, p: usize, k: usize, flag: usize) -> bool
-    ensures { result ≡ all_marked m.now.lists m.now.n m.now.scratch p k flag }
+fn all_marked(m: &Memory, part: Part, flag: usize) -> bool
+    ensures { result ≡ all_marked m.now.lists m.now.n m.now.scratch part.from part.len flag }
 {
-    let there = m.clip(p, k);
+    let there = m.clip(part);
     let mut t = 0;
     'entries: while t < there {
-        let x = m.row(p + t);
+        let x = m.row(part.from + t);
         if m.get(Field::W, x) == flag {
             t += 1;
             continue 'entries;
@@ -111,8 +118,11 @@ fn tail_marked(m: &Memory, j: usize, len: usize, flag: usize) -> bool
     ensures { result ≡ tail_marked m.now.lists m.now.n m.now.scratch j len flag }
 {
     let p = m.get(Field::Pe, j);
-    let rest = len.saturating_sub(1);
-    all_marked(m, p + 1, rest, flag)
+    let rest = Part {
+        from: p + 1,
+        len: len.saturating_sub(1),
+    };
+    all_marked(m, rest, flag)
 }
 
 // Has `j` as many elements as the shape, and is the rest of its list, of the shape's length, marked?
@@ -135,48 +145,21 @@ fn alike(m: &Memory, j: usize, shape: Shape) -> bool
 
 // ---- a merge
 
-// The weight of `j` goes to `i`.
-#[tactic(auto, unfolding(crate::specs::Model::weighed))]
-fn add_weight(m: &mut Memory, i: usize, j: usize)
-    requires taker { i < m.old.n }
-    requires taken { j < m.old.n }
-    ensures weighed { m.new ≡ record m.old { scratch = weighed m.old.n m.old.scratch i j } }
-    ensures bound { m.old.n < 2 ^ 56 }
-{
-    let a = m.get(Field::Nv, i);
-    let b = m.get(Field::Nv, j);
-    let c = cells::plus(a, b);
-    m.set(Field::Nv, i, c);
-    m.set(Field::Nv, j, 0);
-}
-
-// Row `j` has no list any more, and hangs from `i`.
-#[tactic(auto, unfolding(crate::specs::Model::left))]
-fn leave(m: &mut Memory, i: usize, j: usize)
-    requires { j < m.old.n }
-    ensures { m.new ≡ record m.old { scratch = left m.old.n m.old.scratch i j } }
-{
-    m.set(Field::Len, j, 0);
-    m.set_parent(j, Some(i));
-}
-
 // Row `j` is merged into `i`, as merge number `logged`.
-#[tactic(auto, unfolding(crate::specs::Model::joined))]
+#[tactic(auto, unfolding(packed::specs::Model::joined_row, crate::specs::Model::joined, crate::specs::Model::weighed, crate::specs::Model::left))]
 fn merge(m: &mut Memory, i: usize, j: usize, logged: usize)
     requires taker { i < m.old.n }
     requires taken { j < m.old.n }
     ensures { m.new ≡ record m.old { scratch = joined m.old.n m.old.scratch i j logged } }
 {
-    add_weight(m, i, j);
-    leave(m, i, j);
-    m.up(Field::Merges, logged, j);
+    packed::join(m, i, j, logged);
 }
 
 // ---- a bucket
 
 // The next row of the walk, which `next` stands behind, is merged into `i` and leaves the bucket.
 #[tactic(auto, unfolding(crate::specs::Model::taken_next))]
-fn take_next(m: &mut Memory, i: usize, next: usize, w: Walk) -> Walk
+fn take_next(m: &mut Memory, i: usize, next: usize, w: Trail) -> Trail
     requires taker { i < m.old.n }
     requires small { next < 2 ^ 63 }
     requires taken { w.next < m.old.n }
@@ -188,12 +171,12 @@ fn take_next(m: &mut Memory, i: usize, next: usize, w: Walk) -> Walk
     merge(m, i, w.next, w.logged);
     m.set(Field::HNext, w.last, next);
     let logged = cells::plus(w.logged, 1);
-    Walk { next, logged, ..w }
+    Trail { next, logged, ..w }
 }
 
 // The same if it has a list of this shape, which `i` has; if not, it is passed by.
 #[tactic(auto, unfolding(crate::specs::Model::compared, crate::specs::Model::passed_next))]
-fn compare_next(m: &mut Memory, i: usize, shape: Shape, w: Walk) -> Walk
+fn compare_next(m: &mut Memory, i: usize, shape: Shape, w: Trail) -> Trail
     requires taker { i < m.old.n }
     requires next { w.next < m.old.n }
     requires slight { Slight m.old.n w }
@@ -205,7 +188,7 @@ fn compare_next(m: &mut Memory, i: usize, shape: Shape, w: Walk) -> Walk
     if alike(m, w.next, shape) {
         take_next(m, i, next, w)
     } else {
-        Walk {
+        Trail {
             last: w.next,
             next,
             ..w
@@ -230,7 +213,7 @@ fn merge_into(m: &mut Memory, i: usize, behind: usize, k: usize, t: Tally) -> us
         elen: m.get(Field::Elen, i),
         flag: t.flag,
     };
-    let mut w = Walk {
+    let mut w = Trail {
         last: i,
         next: behind,
         logged: t.logged,
@@ -261,7 +244,6 @@ fn merge_at(m: &mut Memory, i: usize, behind: usize, k: usize, t: Tally) -> Tall
 // A bucket from its newest row `first` on, at most `k` rows of it, as long as there is anybody behind.
 #[tactic(auto, using(crate::proofs::Walks::run_turns))]
 fn merge_bucket(m: &mut Memory, first: usize, k: usize, start: Tally) -> Tally
-    requires small { first < 2 ^ 63 }
     ensures merged { merging m.new.scratch result ≡ bucket_run m.old.lists m.old.n k k first (merging m.old.scratch start) }
     ensures lists { SameLists m.old m.new }
 {
@@ -317,15 +299,15 @@ fn merge_row(m: &mut Memory, q: usize, k: usize, t: Tally) -> Tally
     }
 }
 
-// Step 5, for the new element in the `k` cells of the lists from `from` on. The result is the next flag, and how many merges are logged.
+// Step 5, for the new element in a part of the lists. The result is the next flag, and how many merges are logged.
 #[tactic(auto, unfolding(plain::specs::Turns::times, cells::specs::Rows::clipped, crate::specs::Model::merged_rows))]
-pub fn merge_all(m: &mut Memory, from: usize, k: usize, start: Tally) -> Tally
-    ensures merged { merging m.new.scratch result ≡ merged_rows m.old.lists m.old.n from k (merging m.old.scratch start) }
+pub fn merge_all(m: &mut Memory, part: Part, start: Tally) -> Tally
+    ensures merged { merging m.new.scratch result ≡ merged_rows m.old.lists m.old.n part.from part.len (merging m.old.scratch start) }
     ensures lists { SameLists m.old m.new }
 {
     let mut t = start;
-    for i in 0..m.clip(from, k) {
-        t = merge_row(m, from + i, k, t);
+    for i in 0..m.clip(part) {
+        t = merge_row(m, part.from + i, part.len, t);
     }
     t
 }

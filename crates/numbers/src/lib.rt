@@ -1,7 +1,7 @@
 // What speaks of numbers only: the settings and the dense rule read from them, the answers, the threshold, the statistics.
 #![tactic(auto)]
 
-ghost use Rattle.std.specs.Prelude.{◌≡◌, false, [], ◌∷◌, ◌+◌, ◌<◌, ◌≤◌, ◌^◌, min, max, leb, pos, eqb, Some, map, MatchResult};
+ghost use Rattle.std.specs.Prelude.{◌≡◌, false, [], ◌∷◌, ◌+◌, ◌<◌, ◌≤◌, ◌^◌, min, leb, pos, eqb, Some, map, MatchResult};
 ghost use Rattle.std.specs.Fmt.{decimal};
 ghost use Rattle.std.specs.List.{join_with_byte};
 ghost use Rattle.std.proofs.Math.Option.{some, none};
@@ -22,7 +22,7 @@ pub struct Settings {
     pub aggressive: bool,
 }
 
-// The dense rule read from the settings.
+// The dense rule read from the settings. That a multiplier is an accepted one stays a clause (`Accepted`): an enum can have no invariant.
 #[derive(Clone, Copy)]
 pub enum DenseRule {
     FullRows,
@@ -83,7 +83,8 @@ pub struct Outcome {
 
 // ---- the limits
 
-// The most columns that a pattern may have. These two numbers are the only place of the code that has the limits.
+// The most columns that a pattern may have. These two numbers are the only place of the code that has the limits; functions, since a constant has no promise
+// (docs/DECISIONS.md, 37).
 #[tactic(auto, unfolding(definition::specs::Limits::base_limits))]
 pub fn most_columns() -> usize
     ensures { result ≡ base_limits.most_columns }
@@ -137,6 +138,7 @@ impl From<Answer> for i32 {
     }
 }
 
+// The derived default with a promise: its zeros are the definition's numbers of no element.
 #[tactic(auto, unfolding(crate::specs::Meaning::statistics_meant, definition::specs::Outcome::seven))]
 pub fn no_statistics() -> Statistics
     ensures { statistics_meant result ≡ seven no_six 0 }
@@ -144,7 +146,7 @@ pub fn no_statistics() -> Statistics
     Statistics::default()
 }
 
-// What a refusal gives: the answer, and nothing else.
+// What a refusal gives: the answer, and nothing else. No From: an accepted answer has no outcome without its statistics.
 #[tactic(auto, unfolding(crate::specs::Meaning::outcome_meant, definition::specs::Outcome::refused))]
 pub fn refusal(a: Answer) -> Outcome
     ensures { outcome_meant result [] [] ≡ refused (answer_meant a) }
@@ -186,7 +188,7 @@ pub fn multiplier_wrong(x: f64) -> bool
     DenseRule::try_from(x).is_err()
 }
 
-// The dense rule of settings whose multiplier is not refused.
+// The dense rule of settings whose multiplier is not refused. It stands over `try_from` for its promise, which docs/DECISIONS.md (46) names.
 #[tactic(auto, unfolding(definition::specs::Answers::or_full_rows))]
 pub fn dense_rule(s: Settings) -> DenseRule
     requires { is_none (rule_of s.multiplier) ≡ false }
@@ -262,6 +264,7 @@ pub fn first_statistics(dense: usize) -> Statistics
     }
 }
 
+// An element's pivots f and its rows r below them stay two numbers, as the statistics' formulas have them.
 // q = f·r + (f-1)·f/2, signed: at f = 0 the factor f-1 is negative and the gain is 0.
 fn gain_q(f: usize, r: usize) -> u64
     requires { f + r ≤ base_limits.most_columns }

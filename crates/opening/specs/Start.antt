@@ -1,6 +1,6 @@
 -- The start as the code does it: each row a variable, the degree lists, and then the rows that are none set aside.
 -- Assumes nothing.
-use Rattle.std.specs.Prelude.{ℕ, ◌<◌, ◌^◌, cond, List, ltb, ℤ}
+use Rattle.std.specs.Prelude.{ℕ, cond, List, ltb, ℤ}
 use Rattle.plain.specs.Turns.{times}
 use Rattle.cells.specs.Layout.{LEN, WANT, ELEN, DEGREE, W, HHEAD, NV}
 use Rattle.cells.specs.View.{plus, rd, up}
@@ -29,10 +29,6 @@ rooted n i s = hang n (up n W (up n ELEN (up n WANT s i 0) i 1) i 0) i (named n 
 
 unfoldable pub left_out : ℕ → ℕ → List ℤ → List ℤ
 left_out n i s = hang n (up n LEN (up n WANT (up n NV s i 0) i 0) i 0) i (named n n)
-
-pub record Slight (a : Aside) : Type 0 where
-  pub roots : a.roots < 2 ^ 63
-  pub dense : a.dense < 2 ^ 63
 
 -- the scratch, and the counts
 pub record Setting : Type 0 where

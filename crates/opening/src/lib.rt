@@ -1,6 +1,7 @@
 // From the built lists to the first pivot, and from a pivot's choice to its gathered element. Every row begins as a variable of weight 1 in the list of its
 // degree; a row without neighbours is an element at once, and a dense row leaves. Then, for each pivot, its new element is gathered, whose rows leave their
-// degree lists, and its elements are taken up by it. A contract is the function's own model, and the laws of `proofs/` say what it does.
+// degree lists, and its elements are taken up by it. A contract is the function's own model, and the laws of `proofs/` say what it does. The null link of a
+// bucket is n, as in chain: so the model `marked` and the theorems on it have it, and no Option.
 #![tactic(auto)]
 
 ghost use Rattle.std.specs.Prelude.{◌≡◌, ◌<◌, ◌^◌};
@@ -8,11 +9,13 @@ ghost use Rattle.cells.specs.View.{up};
 ghost use Rattle.cells.specs.Space.{SameLists, SameSize};
 ghost use Rattle.cells.specs.Layout.{WANT};
 ghost use Rattle.chain.specs.Model.{removed};
-ghost use Rattle.packed.specs.Gather.{outside, Brief};
-ghost use Rattle.opening.specs.Start.{weighed, marked, begun, begun_all, rooted, left_out, setting, Slight, set_one, set_all, opened};
+ghost use Rattle.packed.specs.Gather.{outside};
+ghost use Rattle.opening.specs.Start.{weighed, marked, begun, begun_all, rooted, left_out, setting, set_one, set_all, opened};
 ghost use Rattle.opening.specs.Begin.{gathered_alone, gathered, pivoted};
 
 use cells::{Field, Memory};
+use packed::{Extent, Made};
+use std::marker::Model;
 
 // ---- the start
 
@@ -78,21 +81,30 @@ fn set_dense(m: &mut Memory, i: usize)
     m.put_parent(i, None);
 }
 
-// The rows that are no variables from the start: those without neighbours, and the dense ones.
-// That both are small is a clause (`Slight`) and no ghost field: the model in specs/Start.antt makes an `Aside` of any two counts.
+// The rows that are no variables from the start: those without neighbours, and the dense ones. Both are numbers of a cell.
 #[derive(Clone, Copy, Default)]
 pub struct Aside {
     pub roots: usize,
     pub dense: usize,
 }
 
+impl Model for Aside {
+    ghost use Rattle.opening.specs.Aside.{Exceptions, Slight};
+
+    ghost Value = { Exceptions };
+
+    ghost view = { λ a. record { roots = a.roots; dense = a.dense } };
+
+    ghost invariant = { λ a. Slight (record { roots = a.roots; dense = a.dense }) };
+
+    ghost inverse = { λ e. record { roots = e.roots; dense = e.dense } };
+}
+
 // Row `i` is set aside, if it is to be.
 #[tactic(auto, unfolding(crate::specs::Start::set_one, crate::specs::Start::set_dense, crate::specs::Start::set_root))]
 fn set_one(m: &mut Memory, limit: usize, i: usize, a: Aside) -> Aside
-    requires { Slight a }
     ensures set { setting m.new.scratch result ≡ set_one m.old.n limit i (setting m.old.scratch a) }
     ensures lists { SameLists m.old m.new }
-    ensures slight { Slight result }
 {
     match m.rd(Field::Len, i) {
         0 => {
@@ -118,7 +130,6 @@ fn set_one(m: &mut Memory, limit: usize, i: usize, a: Aside) -> Aside
 fn set_aside(m: &mut Memory, limit: usize) -> Aside
     ensures set { setting m.new.scratch result ≡ set_all m.old.n limit m.old.scratch }
     ensures lists { SameLists m.old m.new }
-    ensures slight { Slight result }
 {
     let mut a = Aside::default();
     for i in 0..m.columns() {
@@ -132,7 +143,6 @@ fn set_aside(m: &mut Memory, limit: usize) -> Aside
 pub fn start(m: &mut Memory, limit: usize) -> Aside
     ensures opened { setting m.new.scratch result ≡ opened m.old.n limit m.old.scratch }
     ensures lists { SameLists m.old m.new }
-    ensures slight { Slight result }
 {
     start_rows(m);
     chain::enlist_all(m, limit);
@@ -143,37 +153,35 @@ pub fn start(m: &mut Memory, limit: usize) -> Aside
 
 // The new element of a pivot without elements, in its own place, which is stored anew: whoever asks for a parent there finds none.
 #[tactic(auto, unfolding(crate::specs::Begin::gathered_alone))]
-fn gather_alone(m: &mut Memory, me: usize, base: usize, lim: usize, made: usize) -> packed::Made
-    requires { (me < m.old.n) × (lim < 2 ^ 63) × (made < 2 ^ 63) }
-    ensures gathered { outside m.new.lists m.new.scratch result ≡ gathered_alone m.old.n me base lim made m.old.lists m.old.scratch }
+fn gather_alone(m: &mut Memory, me: usize, e: Extent) -> Made
+    requires { (me < m.old.n) × (e.free < 2 ^ 63) × (e.made < 2 ^ 63) }
+    ensures gathered { outside m.new.lists m.new.scratch result ≡ gathered_alone m.old.n me e.base e.free e.made m.old.lists m.old.scratch }
     ensures size { SameSize m.old m.new }
-    ensures brief { Brief result }
 {
     let start = m.get(Field::Pe, me);
     let count = packed::gather_in_place(m, me);
     m.set(Field::Pe, me, start);
-    packed::Made {
+    Made {
         start,
         count,
-        free: lim,
-        base,
-        made,
+        free: e.free,
+        base: e.base,
+        made: e.made,
         collected: 0,
     }
 }
 
 // The new element of a pivot: one with elements takes them up, and gets a place behind all others.
 #[tactic(auto, unfolding(crate::specs::Begin::gathered))]
-fn gather(m: &mut Memory, me: usize, base: usize, lim: usize, made: usize) -> packed::Made
-    requires { (me < m.old.n) × (lim < 2 ^ 63) × (made < 2 ^ 63) }
-    ensures gathered { outside m.new.lists m.new.scratch result ≡ gathered m.old.n me base lim made m.old.lists m.old.scratch }
+fn gather(m: &mut Memory, me: usize, e: Extent) -> Made
+    requires { (me < m.old.n) × (e.free < 2 ^ 63) × (e.made < 2 ^ 63) }
+    ensures gathered { outside m.new.lists m.new.scratch result ≡ gathered m.old.n me e.base e.free e.made m.old.lists m.old.scratch }
     ensures size { SameSize m.old m.new }
-    ensures brief { Brief result }
 {
     if 0 < m.get(Field::Elen, me) {
-        packed::gather_outside(m, me, base, lim, made)
+        packed::gather_outside(m, me, e)
     } else {
-        gather_alone(m, me, base, lim, made)
+        gather_alone(m, me, e)
     }
 }
 
@@ -188,12 +196,11 @@ fn leave(m: &mut Memory, me: usize)
 
 // The pivot `me` leaves its degree list and is wanted no more, and its new element is gathered, whose rows leave their degree lists.
 #[tactic(auto, unfolding(crate::specs::Begin::pivoted))]
-pub fn begin_pivot(m: &mut Memory, me: usize, base: usize, lim: usize, made: usize) -> packed::Made
-    requires { (me < m.old.n) × (lim < 2 ^ 63) × (made < 2 ^ 63) }
-    ensures gathered { outside m.new.lists m.new.scratch result ≡ pivoted m.old.n me base lim made m.old.lists m.old.scratch }
+pub fn begin_pivot(m: &mut Memory, me: usize, e: Extent) -> Made
+    requires { (me < m.old.n) × (e.free < 2 ^ 63) × (e.made < 2 ^ 63) }
+    ensures gathered { outside m.new.lists m.new.scratch result ≡ pivoted m.old.n me e.base e.free e.made m.old.lists m.old.scratch }
     ensures size { SameSize m.old m.new }
-    ensures brief { Brief result }
 {
     leave(m, me);
-    gather(m, me, base, lim, made)
+    gather(m, me, e)
 }

@@ -17,16 +17,17 @@ const SETTINGS: Settings = Settings {
     aggressive: true,
 };
 
+// The memory is fixed, and there is no heap: a rule of the project. So each slice has a most length, and a part of it is lent.
 const MOST_COLUMNS: usize = 128;
 
 const MOST_ROWS: usize = 1024;
 
-const MOST_LISTS: usize = 2176;
+const MOST_LISTS: usize = 2 * MOST_ROWS + MOST_COLUMNS;
 
-const MOST_SCRATCH: usize = 3088;
+const MOST_SCRATCH: usize = MOST_ROWS + 16 * MOST_COLUMNS + 16;
 
 // n, the pointers and the rows of the largest text.
-const MOST_NUMBERS: usize = 1154;
+const MOST_NUMBERS: usize = MOST_COLUMNS + 2 + MOST_ROWS;
 
 // A text that fills so many bytes is too long.
 const TEXT_ROOM: usize = 65536;

@@ -36,7 +36,8 @@ const MOST_LISTS: usize = 0x2000_0000_0000_0000;
 
 // ---- the ordering
 
-// The pattern is taken, its graph eliminated, and the tree that this leaves put in order.
+// The pattern is taken, its graph eliminated, and the tree that this leaves put in order. The two outputs stay two lent slices: a struct that held them would
+// hide from who lends them what they hold afterwards. That the multiplier has a rule stays a clause: the settings hold any f64, a form that the user named.
 fn order_pattern(
     m: &mut Memory,
     pattern: Columns,
@@ -55,7 +56,7 @@ fn order_pattern(
     e.statistics
 }
 
-// The same of a problem that was given the answer `a`, an accepted one; of no columns there is nothing to write.
+// The same of a problem that was given the answer `a`, an accepted one; of no columns there is nothing to write. It takes what `order` takes, the user's form.
 fn order_columns(
     n: i32,
     pointers: &[i32],

@@ -1,4 +1,5 @@
--- A gather's reading: of the numbers that are read, the wanted ones go into the table, each once, and leave their degree lists; the entry that finds no place is remembered.
+-- A gather's reading: of the numbers that are read, the wanted ones go into the table, each once, and leave their degree lists.
+-- The entry that finds no place is remembered.
 -- Assumes nothing.
 use Rattle.std.proofs.Common.{◌≡◌, ℕ, zero, suc, ◌+◌, ◌^◌, ◌<◌, ◌≤◌, Bool, true, false, cond, not, ◌&&◌, ◌||◌, eqb, ltb, ◌≢◌, ◌⊎◌, List, [], ◌∷◌, ◌++◌, length, get_or, ℤ, sym, refl, ap, ◌∙◌, inl, inr, ⊎_elim, arith, length-append, le-ltb, lt-ltb, eq-eqb, ne_eqb}
 use mathlib.Core.List.{foldl, map-append}

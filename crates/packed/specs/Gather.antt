@@ -1,6 +1,6 @@
 -- A gather as the code does it: lists are read, room is made, and the new list is stored.
 -- Assumes nothing.
-use Rattle.std.specs.Prelude.{ℕ, ◌+◌, ◌-◌, ◌^◌, ◌<◌, cond, List, length, ℤ, nat_lt}
+use Rattle.std.specs.Prelude.{ℕ, ◌+◌, ◌-◌, cond, List, length, ℤ, nat_lt}
 use Rattle.plain.specs.Turns.{times}
 use Rattle.cells.specs.Layout.{LEN, PE}
 use Rattle.cells.specs.Rows.{clipped}
@@ -43,14 +43,6 @@ pub record Outside : Type 0 where
 
 abbrev pub outside : List ℤ → List ℤ → Made → Outside
 outside l s r = record { lists = l; mem = s; made = r }
-
--- each number is small, as the next gather asks
-pub record Brief (r : Made) : Type 0 where
-  pub start : r.start < 2 ^ 63
-  pub count : r.count < 2 ^ 63
-  pub free : r.free < 2 ^ 63
-  pub made : r.made < 2 ^ 63
-  pub collected : r.collected < 2
 
 unfoldable pub summed : Ends → Tray → ℕ → Made
 summed e t made =

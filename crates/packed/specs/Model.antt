@@ -2,7 +2,8 @@
 -- Assumes nothing.
 use Rattle.std.specs.Prelude.{ℕ, ◌+◌, cond, List, length, ℤ, nat_lt}
 use Rattle.plain.specs.Turns.{times}
-use Rattle.cells.specs.Layout.{LEN, ORD, PE, TMP}
+use Rattle.cells.specs.Layout.{LEN, MERGES, NV, ORD, PE, TMP}
+use Rattle.cells.specs.Links.{hang, named}
 use Rattle.cells.specs.Rows.{clipped}
 use Rattle.cells.specs.View.{at, plus, rd, up, wr}
 use Rattle.packed.specs.Places.{due, places}
@@ -58,3 +59,10 @@ laid n s e k l = times (clipped (length l) e k) (λ t m. wr m (e + t) (rd n TMP 
 -- object j, with k numbers from e on, is the last of the order
 unfoldable pub entered : ℕ → List ℤ → ℕ → ℕ → ℕ → ℕ → List ℤ
 entered n s cnt j e k = up n ORD (up n LEN (up n PE s j e) j k) cnt j
+
+-- ---- a row that goes to another
+
+-- the weight of row goes to `to`; row has no list any more, hangs from it, and is number log of the log
+unfoldable pub joined_row : ℕ → ℕ → ℕ → ℕ → List ℤ → List ℤ
+joined_row n to row log s =
+    up n MERGES (hang n (up n LEN (up n NV (up n NV s to (plus (rd n NV s to) (rd n NV s row))) row 0) row 0) row (named n to)) log row

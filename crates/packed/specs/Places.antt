@@ -47,7 +47,8 @@ pub record Waits (ob : ℕ → ℕ) (cnt k i : ℕ) : Type 0 where
   pub is : ob turn ≡ i
 
 -- Before turn k of a collection down to d₀. Turn t meets object `ob t`, of whose list D t numbers are to be moved (0: it is dead, or begins
--- at top or later). The turns to come meet their objects by rising place, from e on and below top; every list ends at e or before, or waits, or begins at top or later.
+-- at top or later). The turns to come meet their objects by rising place, from e on and below top;
+-- every list ends at e or before, or waits, or begins at top or later.
 pub record Queue (f : Places) (ob : ℕ → ℕ) (cnt : ℕ) (D : ℕ → ℕ) (top d₀ k e : ℕ) : Type 0 where
   pub now : (u : ℕ) → k ≤ u → u < cnt → due f top (ob u) ≡ D u
   pub order : (t u : ℕ) → k ≤ t → t < u → u < cnt → 0 < D t → 0 < D u → f.pe (ob t) + D t ≤ f.pe (ob u)

@@ -1,4 +1,5 @@
--- A gather's reading, as the code does it: numbers go from lists into the scratch table and out of their degree lists, no list moving; the elements that are read are taken up.
+-- A gather's reading, as the code does it: numbers go from lists into the scratch table and out of their degree lists, no list moving.
+-- The elements that are read are taken up.
 -- Assumes nothing.
 use Rattle.std.specs.Prelude.{ℕ, ◌+◌, ◌-◌, ◌<◌, ◌≤◌, cond, List, length, ℤ, ◌==◌, nat_lt}
 use Rattle.plain.specs.Turns.{times}
@@ -8,7 +9,7 @@ use Rattle.cells.specs.Rows.{clipped}
 use Rattle.cells.specs.View.{at, plus, rd, up, wrapped}
 use Rattle.chain.specs.Model.{removed}
 use Rattle.packed.specs.Places.{sum_to}
-use Rattle.packed.specs.declared.Part.{Part}
+use Rattle.cells.specs.declared.Part.{Part}
 use Rattle.packed.specs.declared.Tray.{Tray}
 
 -- how many rows are wanted

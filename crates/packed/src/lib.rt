@@ -1,33 +1,58 @@
-// Lists packed into one lent space, their collection to the space's beginning, and the list of a new element gathered from others, whose rows leave their degree
-// lists. Nothing here asks for a memory that makes sense: a contract is the function's own model, and the laws of `proofs/` say what it does to the lists.
+// Lists packed into one lent space, their collection to the space's beginning, and the list of a new element gathered from others, whose rows leave their
+// degree lists. Nothing here asks for a memory that makes sense: a contract is the function's own model.
+// The laws of `proofs/` say what it does to the lists.
 #![tactic(auto)]
 
 ghost use Rattle.std.specs.Prelude.{◌≡◌, ◌+◌, ◌^◌, ◌<◌, length};
-ghost use Rattle.cells.specs.View.{at};
+ghost use Rattle.cells.specs.Layout.{NV};
+ghost use Rattle.cells.specs.View.{at, rd};
 ghost use Rattle.cells.specs.Space.{SameLists, SameSize};
 ghost use Rattle.packed.specs.Places.{places, due};
-ghost use Rattle.packed.specs.Model.{copied, heap, moved_one, moved_low, moved_next, moved_new, packed_low, packed_all, laid, entered};
+ghost use Rattle.packed.specs.Model.{copied, heap, moved_one, moved_low, moved_next, moved_new, packed_low, packed_all, laid, entered, joined_row};
 ghost use Rattle.packed.specs.Tray.{Tabled, wanted, taking, counted, took_row, took, took_part, absorbed, took_element, took_elements, own_part, took_all};
-ghost use Rattle.packed.specs.Gather.{cleared, collected_rest, made_room, outside, Brief, summed, gathered_outside, inside, gathered_inside};
+ghost use Rattle.packed.specs.Gather.{cleared, collected_rest, made_room, outside, summed, gathered_outside, inside, gathered_inside};
 
-use cells::{Field, Memory, TMP};
+use cells::{Field, Memory, Part, TMP};
+use std::marker::Model;
 
-// The end of the lists that go by number, and the end of all.
+// How far the list space is filled: the end of the lists that go by number, the next free place, and how many elements stand behind in order.
+// No invariant bounds its numbers: `collect`, `collect_rest` and `make_room` are public and ask less than a gather, and a type may not ask their callers more.
+#[derive(Clone, Copy)]
+pub struct Extent {
+    pub base: usize,
+    pub free: usize,
+    pub made: usize,
+}
+
+// The end of the lists that go by number, and the end of all, a number of a cell.
 #[derive(Clone, Copy)]
 pub struct Ends {
     pub base: usize,
     pub end: usize,
 }
 
-// The `len` numbers from `p` on, moved to `e` on, first the first.
+impl Model for Ends {
+    ghost use Rattle.std.specs.Prelude.{◌<◌, ◌^◌};
+    ghost use Rattle.packed.specs.Ends.{Edges};
+
+    ghost Value = { Edges };
+
+    ghost view = { λ e. record { base = e.base; end = e.end } };
+
+    ghost invariant = { λ e. e.end < 2 ^ 63 };
+
+    ghost inverse = { λ d. record { base = d.base; end = d.end } };
+}
+
+// The numbers of a part, moved to `e` on, first the first.
 #[tactic(auto, unfolding(crate::specs::Model::copied, plain::specs::Turns::times))]
-pub fn copy_down(m: &mut Memory, p: usize, e: usize, len: usize)
-    requires { (p < 2 ^ 63) × (e < 2 ^ 63) × (len < 2 ^ 63) }
-    ensures copied { m.new ≡ record m.old { lists = copied p e len m.old.lists } }
+pub fn copy_down(m: &mut Memory, part: Part, e: usize)
+    requires { (part.from < 2 ^ 63) × (e < 2 ^ 63) × (part.len < 2 ^ 63) }
+    ensures copied { m.new ≡ record m.old { lists = copied part.from e part.len m.old.lists } }
     ensures size { length m.new.lists ≡ length m.old.lists }
 {
-    for k in 0..len {
-        m.copy_row(p + k, e + k);
+    for k in 0..part.len {
+        m.copy_row(part.from + k, e + k);
     }
 }
 
@@ -48,12 +73,14 @@ pub fn move_one(m: &mut Memory, top: usize, j: usize, end: usize) -> usize
     ensures size { SameSize m.old m.new }
     ensures small { result < 2 ^ 63 }
 {
-    let k = due(m, top, j);
-    if 0 < k {
-        let p = m.rd(Field::Pe, j);
-        copy_down(m, p, end, k);
+    let list = Part {
+        from: m.rd(Field::Pe, j),
+        len: due(m, top, j),
+    };
+    if 0 < list.len {
+        copy_down(m, list, end);
         m.up(Field::Pe, j, end);
-        cells::plus(end, k)
+        cells::plus(end, list.len)
     } else {
         end
     }
@@ -104,53 +131,54 @@ pub fn move_new(m: &mut Memory, top: usize, cnt: usize, start: usize) -> usize
 
 // The collection: the lists that begin below `base`, by number, then those of the table.
 #[tactic(auto, unfolding(crate::specs::Model::packed_low, crate::specs::Model::packed_all))]
-pub fn collect(m: &mut Memory, base: usize, lim: usize, cnt: usize) -> Ends
-    ensures base { result.base ≡ (packed_low m.old.n base m.old.lists m.old.scratch).end }
-    ensures packed { heap m.new.lists m.new.scratch result.end ≡ packed_all m.old.n base lim cnt m.old.lists m.old.scratch }
+pub fn collect(m: &mut Memory, e: Extent) -> Ends
+    ensures base { result.base ≡ (packed_low m.old.n e.base m.old.lists m.old.scratch).end }
+    ensures packed { heap m.new.lists m.new.scratch result.end ≡ packed_all m.old.n e.base e.free e.made m.old.lists m.old.scratch }
     ensures size { SameSize m.old m.new }
-    ensures small { result.end < 2 ^ 63 }
 {
-    let low = move_low(m, base, 0);
-    let end = move_new(m, lim, cnt, low);
+    let low = move_low(m, e.base, 0);
+    let end = move_new(m, e.free, e.made, low);
     Ends { base: low, end }
 }
 
 // ---- a list laid at a place
 
-// The first `k` numbers of the scratch table, copied to `e` on.
+// The first numbers of the scratch table, copied to a part, as far as it is there.
 #[tactic(auto, unfolding(crate::specs::Model::laid, plain::specs::Turns::times))]
-pub fn lay(m: &mut Memory, e: usize, k: usize)
-    requires { (e < 2 ^ 63) × Tabled m.old.n m.old.scratch k }
-    ensures laid { m.new ≡ record m.old { lists = laid m.old.n m.old.scratch e k m.old.lists } }
+pub fn lay(m: &mut Memory, part: Part)
+    requires { Tabled m.old.n m.old.scratch part.len }
+    ensures laid { m.new ≡ record m.old { lists = laid m.old.n m.old.scratch part.from part.len m.old.lists } }
     ensures size { length m.new.lists ≡ length m.old.lists }
 {
-    let there = m.clip(e, k);
+    let there = m.clip(part);
     for t in 0..there {
         let x = m.rd(TMP, t);
-        m.put_row(e + t, x);
+        m.put_row(part.from + t, x);
     }
 }
 
-// Object `j` gets the first `k` numbers of the scratch table as its list, at `e`, and is the last of the order.
+// Object `j` gets the first numbers of the scratch table as its list, in a part, and is the last of the order.
 #[tactic(auto, unfolding(crate::specs::Model::entered))]
-pub fn enter(m: &mut Memory, cnt: usize, j: usize, e: usize, k: usize)
-    requires { (e < 2 ^ 63) × Tabled m.old.n m.old.scratch k × (j < m.old.n) }
-    ensures lists { m.new.lists ≡ laid m.old.n m.old.scratch e k m.old.lists }
-    ensures scratch { m.new.scratch ≡ entered m.old.n m.old.scratch cnt j e k }
+pub fn enter(m: &mut Memory, cnt: usize, j: usize, part: Part)
+    requires { (part.from < 2 ^ 63) × Tabled m.old.n m.old.scratch part.len × (j < m.old.n) }
+    ensures lists { m.new.lists ≡ laid m.old.n m.old.scratch part.from part.len m.old.lists }
+    ensures scratch { m.new.scratch ≡ entered m.old.n m.old.scratch cnt j part.from part.len }
     ensures size { SameSize m.old m.new }
 {
     // So the row and the length fit a cell.
     prove!(j < m.columns());
-    lay(m, e, k);
-    m.set(Field::Pe, j, e);
-    m.set(Field::Len, j, k);
+    lay(m, part);
+    m.set(Field::Pe, j, part.from);
+    m.set(Field::Len, j, part.len);
     m.up(Field::Ord, cnt, j);
 }
 
 // ---- a gather: numbers go from lists into the scratch table and out of their degree lists, no list moving
 
-// The numbers in the table, the entries read, and how many had been read with the entry that found no place (0: each found one; an Option would change
-// `empty_tray`, `counted` and `made_room` of specs/, of which theorems of other crates speak).
+// How many places there are, `quota`, goes beside it: the models (`counted`, `took`) and the theorems on them take the two apart.
+// The numbers in the table, the entries read, and how many had been read with the entry that found no place: 0 where each found one. No Option: `counted` and
+// `made_room` of specs/, and the theorems on them, read 0 so, and a view that maps None to 0 is not one to one.
+// That the table has a cell for each row still wanted (`Tabled`) stays a clause: it ties a tray to the memory, and a type for it would hold the memory.
 #[derive(Clone, Copy, Default)]
 pub struct Tray {
     pub cnt: usize,
@@ -171,8 +199,8 @@ pub fn count(quota: usize, reads: usize, t: Tray) -> Tray
     }
 }
 
-// The entry `x`, with which `reads` are read, goes into the table, which has a cell for it beside those of the rows that are still wanted, and leaves its degree
-// list.
+// The entry `x`, with which `reads` are read, goes into the table, which has a cell for it beside those of the rows that are still wanted, and leaves its
+// degree list.
 #[tactic(auto, unfolding(crate::specs::Tray::took_row))]
 pub fn take_row(m: &mut Memory, x: usize, quota: usize, reads: usize, t: Tray) -> Tray
     requires { (x < m.old.n) × (t.cnt + wanted m.old.n m.old.scratch < m.old.n) × Tabled m.old.n m.old.scratch t.cnt }
@@ -216,18 +244,18 @@ pub fn take_at(m: &mut Memory, q: usize, quota: usize, t: Tray) -> Tray
     take_one(m, x, quota, t)
 }
 
-// The same of each of the `k` numbers from `p` on.
+// The same of each number of a part of the list space, as far as it is there.
 #[tactic(auto, unfolding(crate::specs::Tray::took_part, plain::specs::Turns::times))]
-pub fn take_part(m: &mut Memory, p: usize, k: usize, quota: usize, start: Tray) -> Tray
-    requires { (p < 2 ^ 63) × (k < 2 ^ 63) × Tabled m.old.n m.old.scratch start.cnt }
-    ensures took { taking m.new.scratch result ≡ took_part m.old.n quota m.old.lists p k (taking m.old.scratch start) }
+pub fn take_part(m: &mut Memory, part: Part, quota: usize, start: Tray) -> Tray
+    requires { Tabled m.old.n m.old.scratch start.cnt }
+    ensures took { taking m.new.scratch result ≡ took_part m.old.n quota m.old.lists part.from part.len (taking m.old.scratch start) }
     ensures lists { SameLists m.old m.new }
     ensures table { Tabled m.old.n m.new.scratch result.cnt }
 {
-    let there = m.clip(p, k);
+    let there = m.clip(part);
     let mut t = start;
     for i in 0..there {
-        t = take_at(m, p + i, quota, t);
+        t = take_at(m, part.from + i, quota, t);
     }
     t
 }
@@ -251,42 +279,30 @@ pub fn take_element(m: &mut Memory, me: usize, e: usize, quota: usize, t: Tray) 
     ensures lists { SameLists m.old m.new }
     ensures table { Tabled m.old.n m.new.scratch result.cnt }
 {
-    let p = m.get(Field::Pe, e);
-    let k = m.get(Field::Len, e);
+    let list = Part {
+        from: m.get(Field::Pe, e),
+        len: m.get(Field::Len, e),
+    };
     absorb(m, me, e);
     let reads = t.reads.wrapping_add(1);
-    take_part(m, p, k, quota, Tray { reads, ..t })
+    take_part(m, list, quota, Tray { reads, ..t })
 }
 
-// The same of each of the `k` elements whose numbers are from `p` on.
+// The same of each of the elements whose numbers are in a part of the list space, as far as it is there.
 #[tactic(auto, unfolding(crate::specs::Tray::took_elements, plain::specs::Turns::times))]
-pub fn take_elements(
-    m: &mut Memory,
-    me: usize,
-    p: usize,
-    k: usize,
-    quota: usize,
-    start: Tray,
-) -> Tray
-    requires { (p < 2 ^ 63) × (k < 2 ^ 63) × Tabled m.old.n m.old.scratch start.cnt }
-    ensures took { taking m.new.scratch result ≡ took_elements m.old.n me quota m.old.lists p k (taking m.old.scratch start) }
+pub fn take_elements(m: &mut Memory, me: usize, part: Part, quota: usize, start: Tray) -> Tray
+    requires { Tabled m.old.n m.old.scratch start.cnt }
+    ensures took { taking m.new.scratch result ≡ took_elements m.old.n me quota m.old.lists part.from part.len (taking m.old.scratch start) }
     ensures lists { SameLists m.old m.new }
     ensures table { Tabled m.old.n m.new.scratch result.cnt }
 {
-    let there = m.clip(p, k);
+    let there = m.clip(part);
     let mut t = start;
     for i in 0..there {
-        let e = m.row(p + i);
+        let e = m.row(part.from + i);
         t = take_element(m, me, e, quota, t);
     }
     t
-}
-
-// A part of the list space.
-#[derive(Clone, Copy)]
-pub struct Part {
-    pub from: usize,
-    pub len: usize,
 }
 
 // The part of the list of `me` behind its elements.
@@ -313,25 +329,29 @@ pub fn take_all(m: &mut Memory, me: usize, quota: usize) -> Tray
     ensures table { Tabled m.old.n m.new.scratch result.cnt }
     ensures small { result.cnt < 2 ^ 63 }
 {
-    let p = m.get(Field::Pe, me);
-    let k = m.get(Field::Elen, me);
-    let t = take_elements(m, me, p, k, quota, Tray::default());
+    let elements = Part {
+        from: m.get(Field::Pe, me),
+        len: m.get(Field::Elen, me),
+    };
+    let t = take_elements(m, me, elements, quota, Tray::default());
     let own = own_part(m, me);
-    take_part(m, own.from, own.len, quota, t)
+    take_part(m, own, quota, t)
 }
 
 // ---- the new element's place
 
 // A collection of what is left. The end is where it stands in the middle of the reading: the entries that are not read yet still have their cells.
 #[tactic(auto, unfolding(crate::specs::Gather::collected_rest))]
-pub fn collect_rest(m: &mut Memory, base: usize, lim: usize, cnt: usize, t: Tray) -> Ends
-    ensures cleared { cleared m.new.lists m.new.scratch result ≡ collected_rest m.old.n base lim cnt t m.old.lists m.old.scratch }
+pub fn collect_rest(m: &mut Memory, e: Extent, t: Tray) -> Ends
+    ensures cleared { cleared m.new.lists m.new.scratch result ≡ collected_rest m.old.n e.base e.free e.made t m.old.lists m.old.scratch }
     ensures size { SameSize m.old m.new }
-    ensures small { result.end < 2 ^ 63 }
 {
-    let ends = collect(m, base, lim, cnt);
+    let ends = collect(m, e);
     let unread = t.reads.saturating_sub(t.mark);
-    let rest = m.clip(ends.end, unread);
+    let rest = m.clip(Part {
+        from: ends.end,
+        len: unread,
+    });
     Ends {
         end: ends.end + rest,
         ..ends
@@ -340,22 +360,24 @@ pub fn collect_rest(m: &mut Memory, base: usize, lim: usize, cnt: usize, t: Tray
 
 // `me`, which was read, has no list any more; a collection follows if the reading met the end of the room.
 #[tactic(auto, unfolding(crate::specs::Gather::made_room))]
-pub fn make_room(m: &mut Memory, me: usize, base: usize, lim: usize, cnt: usize, t: Tray) -> Ends
-    requires { (me < m.old.n) × (lim < 2 ^ 63) }
-    ensures cleared { cleared m.new.lists m.new.scratch result ≡ made_room m.old.n me base lim cnt t m.old.lists m.old.scratch }
+pub fn make_room(m: &mut Memory, me: usize, e: Extent, t: Tray) -> Ends
+    requires { (me < m.old.n) × (e.free < 2 ^ 63) }
+    ensures cleared { cleared m.new.lists m.new.scratch result ≡ made_room m.old.n me e.base e.free e.made t m.old.lists m.old.scratch }
     ensures size { SameSize m.old m.new }
-    ensures small { result.end < 2 ^ 63 }
 {
     m.set(Field::Len, me, 0);
     if 0 < t.mark {
-        collect_rest(m, base, lim, cnt, t)
+        collect_rest(m, e, t)
     } else {
-        Ends { base, end: lim }
+        Ends {
+            base: e.base,
+            end: e.free,
+        }
     }
 }
 
-// A new element: its place and length, the free end behind it, and whether a collection happened (1) or not (0; a number, since `summed` and `Brief` of specs/,
-// of which theorems of other crates speak, have it so).
+// A new element: its place and length, the free end behind it, and how many collections happened, 0 or 1. That is no bool: it is a count that is added, as
+// `summed` of specs/ and the theorems of `opening` and `standing` read it. All but `base` are numbers of a cell.
 #[derive(Clone, Copy)]
 pub struct Made {
     pub start: usize,
@@ -366,11 +388,23 @@ pub struct Made {
     pub collected: usize,
 }
 
+impl Model for Made {
+    ghost use Rattle.packed.specs.Made.{Arrival, Brief};
+
+    ghost Value = { Arrival };
+
+    ghost view = { λ r. record { start = r.start; count = r.count; free = r.free; base = r.base; made = r.made; collected = r.collected } };
+
+    ghost invariant = { λ r. Brief (record { start = r.start; count = r.count; free = r.free; base = r.base; made = r.made; collected = r.collected }) };
+
+    ghost inverse = { λ a. record { start = a.start; count = a.count; free = a.free; base = a.base; made = a.made; collected = a.collected } };
+}
+
 // The numbers that a gather leaves.
 #[tactic(auto, unfolding(crate::specs::Gather::summed))]
 pub fn summed(ends: Ends, t: Tray, made: usize) -> Made
-    requires { (t.cnt < 2 ^ 63) × (ends.end < 2 ^ 63) × (made < 2 ^ 63) }
-    ensures { (result ≡ summed ends t made) × Brief result }
+    requires { (t.cnt < 2 ^ 63) × (made < 2 ^ 63) }
+    ensures { result ≡ summed ends t made }
 {
     Made {
         start: ends.end,
@@ -382,20 +416,22 @@ pub fn summed(ends: Ends, t: Tray, made: usize) -> Made
     }
 }
 
-// The list of the new element `me`, from the lists of its elements in order and its own variables, stored behind all others. `base` is the end of the lists
-// that go by number, `lim` the next free place, `made` the number of elements in the order.
+// The list of the new element `me`, from the lists of its elements in order and its own variables, stored behind all others.
 #[tactic(auto, unfolding(crate::specs::Gather::gathered_outside, crate::specs::Gather::settled))]
-pub fn gather_outside(m: &mut Memory, me: usize, base: usize, lim: usize, made: usize) -> Made
-    requires { (me < m.old.n) × (lim < 2 ^ 63) × (made < 2 ^ 63) }
-    ensures gathered { outside m.new.lists m.new.scratch result ≡ gathered_outside m.old.n me base lim made m.old.lists m.old.scratch }
+pub fn gather_outside(m: &mut Memory, me: usize, e: Extent) -> Made
+    requires { (me < m.old.n) × (e.free < 2 ^ 63) × (e.made < 2 ^ 63) }
+    ensures gathered { outside m.new.lists m.new.scratch result ≡ gathered_outside m.old.n me e.base e.free e.made m.old.lists m.old.scratch }
     ensures size { SameSize m.old m.new }
-    ensures brief { Brief result }
 {
-    let quota = m.size().saturating_sub(lim);
+    let quota = m.size().saturating_sub(e.free);
     let t = take_all(m, me, quota);
-    let ends = make_room(m, me, base, lim, made, t);
-    enter(m, made, me, ends.end, t.cnt);
-    summed(ends, t, made)
+    let ends = make_room(m, me, e, t);
+    let list = Part {
+        from: ends.end,
+        len: t.cnt,
+    };
+    enter(m, e.made, me, list);
+    summed(ends, t, e.made)
 }
 
 // The list of the new element `me`, which has no elements, from its own variables, in its own place. The result is its length.
@@ -406,10 +442,33 @@ pub fn gather_in_place(m: &mut Memory, me: usize) -> usize
     ensures size { SameSize m.old m.new }
     ensures small { result < 2 ^ 63 }
 {
-    let p = m.get(Field::Pe, me);
-    let k = m.get(Field::Len, me);
-    let t = take_part(m, p, k, k, Tray::default());
-    lay(m, p, t.cnt);
+    let list = Part {
+        from: m.get(Field::Pe, me),
+        len: m.get(Field::Len, me),
+    };
+    let t = take_part(m, list, list.len, Tray::default());
+    lay(m, Part { len: t.cnt, ..list });
     m.set(Field::Len, me, t.cnt);
     t.cnt
+}
+
+// ---- a row that goes to another
+
+// Row `row` goes to `to`: its weight, which is the result. It has no list any more, hangs from `to`, and is number `logged` of the log.
+#[tactic(auto, unfolding(crate::specs::Model::joined_row))]
+pub fn join(m: &mut Memory, to: usize, row: usize, logged: usize) -> usize
+    requires taker { to < m.old.n }
+    requires taken { row < m.old.n }
+    ensures weight { result ≡ rd m.old.n NV m.old.scratch row }
+    ensures small { result < 2 ^ 63 }
+    ensures joined { m.new ≡ record m.old { scratch = joined_row m.old.n to row logged m.old.scratch } }
+{
+    let weight = m.get(Field::Nv, row);
+    let held = m.get(Field::Nv, to);
+    m.set(Field::Nv, to, cells::plus(held, weight));
+    m.set(Field::Nv, row, 0);
+    m.set(Field::Len, row, 0);
+    m.set_parent(row, Some(to));
+    m.up(Field::Merges, logged, row);
+    weight
 }

@@ -1,6 +1,6 @@
 -- The modules of `pattern` that belong to no one function.
-pub mod Clearing
 pub mod Reaching
+pub mod Scans
 pub mod Cursor
 pub mod Unwritten
 pub mod Traversal

@@ -1,6 +1,6 @@
 -- Where the scan of a column stops, step by step for its loops; and what it has passed: the rows above k, and those from it on.
 -- Assumes nothing.
-use Prim.Native.Nat.{ℕ, zero, suc, ◌+◌, ◌-◌, ◌≤◌, ◌<◌, max}
+use Prim.Native.Nat.{ℕ, zero, suc, ◌+◌, ◌-◌, ◌≤◌, ◌<◌}
 use native.Mathlib.Omega.{arith}
 use mathlib.Core.Path.{◌≡◌, refl, sym, ap, ◌∙◌}
 use mathlib.Core.Logic.{◌⊎◌, inl, inr}
@@ -11,12 +11,12 @@ use lib.ListN.{length}
 use borrow.Author.Tests.{lt-ltb, le-ltb}
 use Rattle.plain.specs.Lists.{leading, trailing}
 use Rattle.plain.specs.Turns.{entries, times}
+use Rattle.plain.proofs.Turns.{times_keeps}
 use Rattle.definition.specs.Neighbours.{skip, above, below}
 use Rattle.cells.specs.View.{rd}
 use Rattle.cells.proofs.Slices.{split}
 use Rattle.pattern.specs.Reach.{reach, behind, past}
 use Rattle.pattern.specs.Model.{Heap}
-use Rattle.plain.proofs.Turns.{times_after}
 
 module _ (F : ℕ → ℕ) (k p to : ℕ) where
   pub reach_is_end : to ≤ p → reach F k p to ≡ p
@@ -40,56 +40,50 @@ module _ (F : ℕ → ℕ) (k p to : ℕ) where
 
 -- ---- for the loops that do something at each place before they stop
 
--- from h₀, the places from `from` on, before p, are done, the rows are as they were, and the scan stops at p or behind it
+-- from h₀, the places from `from` on, before p, are done, and the scan stops at p or behind it
 pub record Until (n k from to : ℕ) (f : ℕ → Heap → Heap) (h₀ h : Heap) (p : ℕ) : Type 0 where
   pub begun : from ≤ p
-  pub within : p - from ≤ to - from
   pub same : h ≡ times (p - from) (λ t. f (from + t)) h₀
-  pub rows : (q : ℕ) → rd n 16 h.mem q ≡ rd n 16 h₀.mem q
   pub rest : reach (rd n 16 h₀.mem) k p to ≡ reach (rd n 16 h₀.mem) k from to
 
-module _ (n k from to : ℕ) (f : ℕ → Heap → Heap) (h₀ : Heap) where
+module _ (n k from to : ℕ) (f : ℕ → Heap → Heap) (keeps : (p : ℕ) (h : Heap) (q : ℕ) → rd n 16 (f p h).mem q ≡ rd n 16 h.mem q) (h₀ : Heap) where
   pub until_none : Until n k from to f h₀ h₀ from
   unfolding times
-  until_none =
-      let e : from - from ≡ 0 = omega arith in
-      record { begun = omega arith; within = omega arith; same = rw e; rows = λ q. refl; rest = refl }
+  until_none = let e : from - from ≡ 0 = omega arith in record { begun = omega arith; same = rw e; rest = refl }
 
-  module _ (h : Heap) (p : ℕ) (u : Until n k from to f h₀ h p) (i : ℕ) (e : i ≡ rd n 16 h.mem p) where
-    row_is : i ≡ rd n 16 h₀.mem p
-    row_is = e ∙ u.rows p
+  module _ (h : Heap) (p : ℕ) (u : Until n k from to f h₀ h p) where
+    row_same : (q : ℕ) → rd n 16 h.mem q ≡ rd n 16 h₀.mem q
+    row_same q =
+        ap (λ (x : Heap). rd n 16 x.mem q) u.same
+        ∙ times_keeps (λ t (x : Heap). rd n 16 x.mem q ≡ rd n 16 h₀.mem q) (λ t. f (from + t)) (p - from) (λ t x b e. keeps (from + t) x q ∙ e) (p - from) h₀ (omega arith) refl
 
-    pub until_more : (x : Heap) → x ≡ f p h → p < to → i < k → ((q : ℕ) → rd n 16 (f p h).mem q ≡ rd n 16 h.mem q) → Until n k from to f h₀ x (p + 1)
-    until_more x g l b keeps =
+    pub until_more : (i : ℕ) (x : Heap) → p < to → i ≡ rd n 16 h.mem p → i < k → x ≡ f p h → Until n k from to f h₀ x (p + 1)
+    unfolding times
+    until_more i x l e b g =
+        let c : p + 1 - from ≡ suc (p - from) = omega (arith, u.begun) in
+        let d : from + (p - from) ≡ p = omega (arith, u.begun) in
         let r : p + 1 ≡ suc p = omega arith in
         record {
           begun = omega (arith, u.begun);
-          within = omega (arith, u.begun, l);
-          same = g ∙ ap (f p) u.same ∙ sym (times_after f h₀ from p u.begun);
-          rows = λ q. ap (λ (y : Heap). rd n 16 y.mem q) g ∙ keeps q ∙ u.rows q;
-          rest = rw r (reach_is_more (rd n 16 h₀.mem) k p to l (omega (arith, row_is, b)) ∙ u.rest);
+          same = rw (c, d) (g ∙ ap (f p) u.same);
+          rest = rw r (reach_is_more (rd n 16 h₀.mem) k p to l (omega (arith, e, row_same p)) ∙ u.rest);
         }
 
-    stop_here : k ≤ i → p ≡ reach (rd n 16 h₀.mem) k from to
-    stop_here b = sym (reach_is_stop (rd n 16 h₀.mem) k p to (omega (arith, row_is, b))) ∙ u.rest
+    module _ (i : ℕ) (l : p < to) (e : i ≡ rd n 16 h.mem p) (b : k ≤ i) where
+      stop_here : p ≡ reach (rd n 16 h₀.mem) k from to
+      stop_here = sym (reach_is_stop (rd n 16 h₀.mem) k p to (omega (arith, e, row_same p))) ∙ u.rest
 
-    pub until_stop : k ≤ i → h ≡ times (reach (rd n 16 h₀.mem) k from to - from) (λ t. f (from + t)) h₀
-    until_stop b = rw (← stop_here b) u.same
+      pub until_stop : (r : ℕ) → r ≡ behind i k p
+          → (h ≡ times (reach (rd n 16 h₀.mem) k from to - from) (λ t. f (from + t)) h₀) × (r ≡ past (rd n 16 h₀.mem) k (reach (rd n 16 h₀.mem) k from to) to)
+      unfolding past
+      until_stop r g = rw (← stop_here, lt-ltb p to l) (u.same, g ∙ ap (λ (y : ℕ). behind y k p) (e ∙ row_same p))
 
-    pub until_next : (r : ℕ) → r ≡ behind i k p → p < to → k ≤ i → r ≡ past (rd n 16 h₀.mem) k (reach (rd n 16 h₀.mem) k from to) to
+    pub until_end : to ≤ p
+        → (h ≡ times (reach (rd n 16 h₀.mem) k from to - from) (λ t. f (from + t)) h₀) × (p ≡ past (rd n 16 h₀.mem) k (reach (rd n 16 h₀.mem) k from to) to)
     unfolding past
-    until_next r g l b = rw (← stop_here b, lt-ltb p to l) (g ∙ ap (λ (y : ℕ). behind y k p) row_is)
-
-  module _ (h : Heap) (p : ℕ) (u : Until n k from to f h₀ h p) (l : to ≤ p) where
-    end_here : p ≡ reach (rd n 16 h₀.mem) k from to
-    end_here = sym (reach_is_end (rd n 16 h₀.mem) k p to l) ∙ u.rest
-
-    pub until_end : h ≡ times (reach (rd n 16 h₀.mem) k from to - from) (λ t. f (from + t)) h₀
-    until_end = rw (← end_here) u.same
-
-    pub until_last : (r : ℕ) → r ≡ max from to → r ≡ past (rd n 16 h₀.mem) k (reach (rd n 16 h₀.mem) k from to) to
-    unfolding past
-    until_last r e = rw (← end_here, le-ltb p to l) (omega (arith, u.begun, u.within))
+    until_end l =
+        let z : p ≡ reach (rd n 16 h₀.mem) k from to = sym (reach_is_end (rd n 16 h₀.mem) k p to l) ∙ u.rest in
+        rw (← z, le-ltb p to l) (u.same, refl)
 
 -- ---- what is passed: the rows above k, and what is left
 

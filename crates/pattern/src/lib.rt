@@ -3,13 +3,11 @@
 // stored over.
 #![tactic(auto)]
 
-ghost use Rattle.std.specs.Prelude.{◌≡◌, ◌+◌, ◌-◌, ◌<◌, ◌≤◌, ◌^◌};
-ghost use Rattle.plain.specs.Turns.{times};
-ghost use Rattle.cells.specs.View.{at, rd, up};
-ghost use Rattle.cells.specs.Field.{field_number};
+ghost use Rattle.std.specs.Prelude.{◌≡◌, ◌+◌, ◌<◌, ◌≤◌, ◌^◌};
+ghost use Rattle.cells.specs.View.{rd};
 ghost use Rattle.cells.specs.Space.{SameLists, SameSize};
 ghost use Rattle.pattern.specs.Reach.{reach, behind, past};
-ghost use Rattle.pattern.specs.Model.{copied_pointers, copied_rows, copied, cleared_all, rowed, visited, visited_column, visited_next, visited_all, spot, placed_row, placed_rows, transposed, tidied, heap, added, paired, paired_at, paired_part, passed, met, met_part, met_column, met_columns, met_rest, met_rests, scanned, emptied_all, placed_list, placed_lists, built, built_free};
+ghost use Rattle.pattern.specs.Model.{copied_pointers, copied_rows, copied, cleared, cleared_all, rowed, visited, visited_column, visited_next, visited_all, spot, placed_row, placed_rows, transposed, tidied, heap, added, paired, paired_at, paired_part, passed, met, met_part, met_column, met_columns, met_rest, met_rests, scanned, emptied_all, placed_list, placed_lists, built, built_free};
 
 use cells::{Field, Memory, SP, TP};
 
@@ -51,22 +49,21 @@ pub fn copy(m: &mut Memory, pattern: Columns)
 
 // ---- a jumbled one is transposed, without repeats
 
-// Every row's number of a field becomes 0.
-#[tactic(auto, using(plain::proofs::Turns::turns))]
-fn clear_field(m: &mut Memory, field: Field)
-    ensures { m.new ≡ record m.old { scratch = times m.old.n (λ i s. up m.old.n (field_number field) s i 0) m.old.scratch } }
+#[tactic(auto, unfolding(crate::specs::Model::cleared))]
+pub fn clear_row(m: &mut Memory, i: usize)
+    ensures { m.new ≡ record m.old { scratch = cleared m.old.n i m.old.scratch } }
 {
-    for i in 0..m.columns() {
-        m.up(field, i, 0);
-    }
+    m.up(SP, i, 0);
+    m.up(TP, i, 0);
 }
 
-#[tactic(auto, using(crate::proofs::Clearing::cleared_apart))]
+#[tactic(auto, using(plain::proofs::Turns::turns), unfolding(crate::specs::Model::cleared_all))]
 pub fn start_cleaning(m: &mut Memory)
     ensures { m.new ≡ record m.old { scratch = cleared_all m.old.n m.old.scratch } }
 {
-    clear_field(m, SP);
-    clear_field(m, TP);
+    for i in 0..m.columns() {
+        clear_row(m, i);
+    }
 }
 
 // Column `j` becomes the next entry of row `i`.
@@ -95,6 +92,7 @@ pub fn visit(m: &mut Memory, j: usize, i: usize)
     }
 }
 
+// By index, as in `copy_rows`, and no slice of the rows: a pointer may lie past their end, and the model is total, so that there the number is 0.
 #[tactic(auto, using(plain::proofs::Turns::turns), unfolding(crate::specs::Model::visited_column))]
 pub fn visit_column(m: &mut Memory, rows: &[i32], j: usize, from: usize, count: usize)
     requires { (j < m.old.n) × (from < 2 ^ 63) × (count < 2 ^ 63) }
@@ -125,7 +123,7 @@ pub fn visit_all(m: &mut Memory, pattern: Columns)
     }
 }
 
-// The place of row `i` is `free`; the result is the next free place.
+// The place of row `i` is `free`; the result is the next free place. `place_list` is another function: what it stores differs, not a type or a size.
 #[tactic(auto, unfolding(crate::specs::Model::placed_row))]
 pub fn place_row(m: &mut Memory, i: usize, free: usize) -> usize
     requires { free < 2 ^ 63 }
@@ -164,6 +162,7 @@ pub fn clean(m: &mut Memory, pattern: Columns)
     visit_all(m, pattern);
 }
 
+// `jumbled` is a bool: of the answers two are accepted, 1 and 0, and `tidied` takes which of them it is.
 #[tactic(auto, unfolding(crate::specs::Model::tidied))]
 pub fn tidy(m: &mut Memory, pattern: Columns, jumbled: bool)
     ensures { m.new ≡ record m.old { scratch = tidied m.old.n pattern.entry.pointers.now pattern.entry.rows.now jumbled m.old.scratch } }
@@ -212,6 +211,7 @@ pub fn pair_at(m: &mut Memory, j: usize, p: usize)
     }
 }
 
+// A scan goes from a place up to another: two numbers, of which its loop makes the range, and the first of which it hands on.
 // The entries of column `j` from `from` on, before `to`.
 #[tactic(auto, using(plain::proofs::Turns::times_after), unfolding(crate::specs::Model::paired_part, plain::specs::Turns::times))]
 pub fn pair_part(m: &mut Memory, j: usize, from: usize, to: usize)
@@ -357,7 +357,7 @@ pub fn scan(m: &mut Memory)
 pub fn start_building(m: &mut Memory)
     ensures { m.new ≡ record m.old { scratch = emptied_all m.old.n m.old.scratch } }
 {
-    clear_field(m, SP);
+    m.fill(SP, 0);
 }
 
 // The list of row `i` begins at `free`; the result is the next free place.

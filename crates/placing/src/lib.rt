@@ -8,7 +8,7 @@ ghost use Rattle.cells.specs.Layout.{NV};
 ghost use Rattle.packed.specs.Gather.{cut, kept_part};
 ghost use Rattle.placing.specs.Model.{degree_of, spot, placed_row, placed_all, sealed, marked, finished};
 
-use cells::{Field, Memory};
+use cells::{Field, Memory, Part};
 
 // How many rows survive in the new element, and the least degree.
 #[derive(Clone, Copy)]
@@ -17,6 +17,7 @@ pub struct Restored {
     pub least: usize,
 }
 
+// The new element's weight and how many variables are left bound each degree; they are two of the four numbers of `placed_all`, which takes them apart.
 // The degree of a row of degree `old` and weight `own` in a new element of weight `size`, where `left` variables are left.
 #[tactic(auto, unfolding(crate::specs::Model::degree_of))]
 fn new_degree(old: usize, size: usize, left: usize, own: usize) -> usize
@@ -49,18 +50,11 @@ fn restore_row(
     least.min(d)
 }
 
-// The survivors among the `k` rows from `from` on: each is placed, and they alone are kept there. A merged row has no weight, and is no survivor.
-pub fn restore(
-    m: &mut Memory,
-    size: usize,
-    left: usize,
-    from: usize,
-    k: usize,
-    start: usize,
-) -> Restored
-    requires { (size < 2 ^ 63) × (left < m.old.n) × (from < 2 ^ 63) × (k < 2 ^ 63) × (start < 2 ^ 63) }
-    ensures placed { spot m.new.scratch result.least ≡ placed_all m.old.n size left m.old.lists from k (spot m.old.scratch start) }
-    ensures kept { cut m.new.lists result.count ≡ kept_part m.old.n NV m.old.scratch from k m.old.lists }
+// The survivors among the rows of the part: each is placed, and they alone are kept there. A merged row has no weight, and is no survivor.
+pub fn restore(m: &mut Memory, size: usize, left: usize, part: Part, start: usize) -> Restored
+    requires { (size < 2 ^ 63) × (left < m.old.n) × (start < 2 ^ 63) }
+    ensures placed { spot m.new.scratch result.least ≡ placed_all m.old.n size left m.old.lists part.from part.len (spot m.old.scratch start) }
+    ensures kept { cut m.new.lists result.count ≡ kept_part m.old.n NV m.old.scratch part.from part.len m.old.lists }
     ensures same { SameSize m.old m.new }
     ensures small { (result.count < 2 ^ 63) × (result.least < 2 ^ 63) }
 {
@@ -68,12 +62,12 @@ pub fn restore(
         count: 0,
         least: start,
     };
-    for q in from..from + m.clip(from, k) {
+    for q in part.from..part.from + m.clip(part) {
         let i = m.row(q);
         let own = m.get(Field::Nv, i);
         if 0 < own {
             r.least = restore_row(m, size, left, i, own, r.least);
-            m.put_row(from + r.count, i);
+            m.put_row(part.from + r.count, i);
             r.count += 1;
         }
     }

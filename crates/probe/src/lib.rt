@@ -8,7 +8,7 @@ ghost use Rattle.probe.specs.Told.{seven_of, written, told, lent_by, seen};
 
 use numbers::{Settings, Statistics};
 
-// The seven statistics, in the order of the cells.
+// The seven statistics, in the order of the cells: its promise is `seven_of` of this crate's specs/, so it stands here and not at `numbers::Statistics`.
 #[tactic(auto, unfolding(crate::specs::Told::seven_of, numbers::specs::Meaning::statistics_meant))]
 fn seven(x: Statistics) -> [u64; 7]
     ensures { result ≡ seven_of (statistics_meant x) }
@@ -35,6 +35,7 @@ fn put_statistics(cells: &mut [u64], x: Statistics)
 }
 
 // The ordering of the pattern of `n` columns, or the answer for which it is refused: the answer's number, for all inputs.
+// Numbers and slices one by one, the answer as a number: it is the C interface, which `probe_c` exports.
 pub fn order_probe(
     n: i32,
     pointers: &[i32],

@@ -6,6 +6,7 @@ ghost use Rattle.definition.specs.Promise.{after};
 ghost use Rattle.probe.specs.Told.{told, lent_by, seen};
 
 // The ordering of the pattern of `n` columns, or the answer for which it is refused: the answer's number, for all inputs.
+// Numbers and slices one by one, the answer as a number: it is the C interface.
 #[unsafe(no_mangle)]
 pub extern "C" fn order_probe(
     n: i32,

@@ -18,6 +18,7 @@ const FILL: i32 = -7;
 
 const WIDE_FILL: i64 = FILL as i64;
 
+// The memory is fixed, and there is no heap: a rule of the project. So each slice has a most length, and a part of it is lent.
 const MOST_OUTPUT: usize = 160;
 
 const MOST_LISTS: usize = 2048;
@@ -85,6 +86,7 @@ fn split_first_case(xs: &[i32]) -> Option<(Case<'_>, &[i32])>
     if xs.len() < HEAD {
         return None;
     }
+    // The head's places are those of the comment at the top of this file.
     let (head, rest) = xs.split_at(HEAD);
     let (pointers, rest) = rest.split_at(limit_length(head[8], rest.len()));
     let (rows, rest) = rest.split_at(limit_length(head[9], rest.len()));

@@ -8,7 +8,7 @@ ghost use Rattle.cells.specs.Layout.{NV};
 ghost use Rattle.cells.specs.View.{at, rd};
 ghost use Rattle.sizing.specs.Model.{sized_first, sized_element, sized_at, sized_part, sized_list, sized_row, sized_all, fitted, weighed_rows};
 
-use cells::{Field, Memory};
+use cells::{Field, Memory, Part};
 
 // What a row takes from the counters of its elements: its weight, which is not above the flag.
 #[derive(Clone, Copy)]
@@ -56,27 +56,27 @@ pub fn size_at(m: &mut Memory, q: usize, charge: Charge)
     size_element(m, e, charge);
 }
 
-// The same of each of the `k` elements from `p` on.
+// The same of each of the elements in a part of the lists.
 #[tactic(auto, unfolding(plain::specs::Turns::times, cells::specs::Rows::clipped, crate::specs::Model::sized_part))]
-pub fn size_elements(m: &mut Memory, p: usize, k: usize, charge: Charge)
-    requires { p + k ≤ length m.old.lists }
-    ensures { m.new ≡ record m.old { scratch = sized_part m.old.n m.old.lists charge.weight charge.flag p k m.old.scratch } }
+pub fn size_elements(m: &mut Memory, part: Part, charge: Charge)
+    requires { part.from + part.len ≤ length m.old.lists }
+    ensures { m.new ≡ record m.old { scratch = sized_part m.old.n m.old.lists charge.weight charge.flag part.from part.len m.old.scratch } }
 {
-    for t in 0..m.clip(p, k) {
-        size_at(m, p + t, charge);
+    for t in 0..m.clip(part) {
+        size_at(m, part.from + t, charge);
     }
 }
 
 // The same, if all of them are there and the weight is not above the flag: asked once for all of them.
 #[tactic(auto, unfolding(crate::specs::Model::sized_list))]
-fn size_list(m: &mut Memory, p: usize, k: usize, weight: usize, flag: usize)
-    requires start { p < 2 ^ 63 }
-    requires count { k < 2 ^ 63 }
+fn size_list(m: &mut Memory, part: Part, weight: usize, flag: usize)
+    requires start { part.from < 2 ^ 63 }
+    requires count { part.len < 2 ^ 63 }
     requires small { flag < 2 ^ 63 }
-    ensures { m.new ≡ record m.old { scratch = sized_list m.old.n m.old.lists weight flag p k m.old.scratch } }
+    ensures { m.new ≡ record m.old { scratch = sized_list m.old.n m.old.lists weight flag part.from part.len m.old.scratch } }
 {
-    if p + k <= m.size() && weight <= flag {
-        size_elements(m, p, k, Charge { weight, flag });
+    if part.from + part.len <= m.size() && weight <= flag {
+        size_elements(m, part, Charge { weight, flag });
     }
 }
 
@@ -91,9 +91,11 @@ pub fn size_row(m: &mut Memory, q: usize, flag: usize) -> usize
 {
     let i = m.row(q);
     let weight = m.get(Field::Nv, i);
-    let p = m.get(Field::Pe, i);
-    let k = m.get(Field::Elen, i);
-    size_list(m, p, k, weight, flag);
+    let elements = Part {
+        from: m.get(Field::Pe, i),
+        len: m.get(Field::Elen, i),
+    };
+    size_list(m, elements, weight, flag);
     weight
 }
 
@@ -105,17 +107,17 @@ fn fit(sum: usize) -> usize
     if sum < 0x8000_0000_0000_0000 { sum } else { 0 }
 }
 
-// Those of each of the `k` rows from `from` on: the rows of the new element. The result is their weight.
+// Those of each of the rows in a part of the lists: the rows of the new element. The result is their weight.
 #[tactic(auto, unfolding(plain::specs::Turns::times, cells::specs::Rows::clipped, crate::specs::Model::sized_all, crate::specs::Model::weighed_rows))]
-pub fn size_all(m: &mut Memory, from: usize, k: usize, flag: usize) -> usize
+pub fn size_all(m: &mut Memory, part: Part, flag: usize) -> usize
     requires { flag < 2 ^ 63 }
-    ensures sized { m.new ≡ record m.old { scratch = sized_all m.old.n m.old.lists flag from k m.old.scratch } }
-    ensures weight { result ≡ weighed_rows m.old.n m.old.lists m.old.scratch from k }
+    ensures sized { m.new ≡ record m.old { scratch = sized_all m.old.n m.old.lists flag part.from part.len m.old.scratch } }
+    ensures weight { result ≡ weighed_rows m.old.n m.old.lists m.old.scratch part.from part.len }
     ensures small { result < 2 ^ 63 }
 {
     let mut sum: usize = 0;
-    for t in 0..m.clip(from, k) {
-        let weight = size_row(m, from + t, flag);
+    for t in 0..m.clip(part) {
+        let weight = size_row(m, part.from + t, flag);
         sum = sum.wrapping_add(weight);
     }
     fit(sum)

@@ -33,7 +33,8 @@ impl fmt::Display for Fault {
 
 impl Error for Fault {}
 
-// What the bytes read so far end in; a number that is open has its sign and its digits' value.
+// What the bytes read so far end in; a number that is open has its sign and its digits' value, as specs/Numerals has them: one signed value would lose the sign
+// of -05. That the value is below 2^31 stays a clause (`Small`): an enum can have no invariant.
 #[derive(Clone, Copy)]
 pub enum Place {
     Between,
@@ -53,6 +54,7 @@ const END: usize = 0x8000_0000;
 
 // ---- reading
 
+// `is_ascii_whitespace` takes form feed too, which is no white space here.
 #[tactic(auto, unfolding(crate::specs::Numerals::blank))]
 fn is_blank(b: u8) -> bool
     ensures { result ≡ blank b }
@@ -141,7 +143,7 @@ fn step(out: &mut [i32], scan: Scan, b: u8) -> Result<Scan, Fault>
     }
 }
 
-// The numbers of `text`, into `out` from its start.
+// The numbers of `text`, into `out` from its start: a lent slice and a count, no Vec, since the memory is fixed.
 pub fn read_numbers(text: &[u8], out: &mut [i32]) -> Result<usize, Fault>
     ensures { (out.new ≡ (read_text text.now out.old).cells) × (result ≡ reading_of (read_text text.now out.old).scan) × Within result (length out.new) }
 {
@@ -182,7 +184,7 @@ pub fn read_full<R: Read>(input: &mut R, bytes: &mut [u8]) -> io::Result<usize>
 fn floored(x: i32) -> i32
     ensures { result ≡ floored x }
 {
-    if x < 0 { 0 } else { x }
+    x.max(0)
 }
 
 // Prints numbers, one blank between two. A negative one is printed as 0: no outcome has any.

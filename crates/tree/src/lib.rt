@@ -1,11 +1,13 @@
 // What comes after the elimination (post_tree.rs, postorder.rs, the end of amd_2.rs): each merged row finds its element; what hangs under a row is put into a
 // list, the other children before the largest and merged rows behind it; and one walk by an explicit stack writes the permutation and its inverse.
 // The roots, and behind them the dense rows, hang under n, which is no row.
+// `column` and `put_column` are here the table FIRST of docs/LAYOUT.md: the first that hangs under a row. The walk's stack is a table of the scratch too, since
+// the memory is fixed.
 #![tactic(auto)]
 
 ghost use Rattle.std.specs.Prelude.{◌≡◌, ◌<◌, ◌^◌};
 ghost use Rattle.cells.specs.Space.{SameLists};
-ghost use Rattle.cells.specs.View.{up, plus};
+ghost use Rattle.cells.specs.View.{up};
 ghost use Rattle.tree.specs.Class.{class_number};
 ghost use Rattle.tree.specs.Final.{Outputs};
 ghost use Rattle.tree.specs.Model.{above, owned, owned_all, blank_one, blanked, as_large, measured_under, measured_one, measured, largest_of, class_of, listed, threaded_one, threaded, prepared, sheets, placed, tour, deeper, top, higher, stepped, walked};
@@ -201,14 +203,6 @@ struct Walk {
     done: usize,
 }
 
-// One more, or the largest number that a cell holds.
-#[tactic(auto, unfolding(cells::specs::View::plus))]
-fn more(k: usize) -> usize
-    ensures { result ≡ plus k 1 }
-{
-    k.saturating_add(1).min(i64::MAX as usize)
-}
-
 // Row `v` stands at place `k`. The permutation and its inverse stay two slices: behind a `&mut` to a struct of both, a caller would know nothing of them
 // afterwards without a clause that names what each reference lends.
 #[tactic(auto, unfolding(crate::specs::Model::placed))]
@@ -233,7 +227,7 @@ fn enter(m: &mut Memory, w: Walk) -> Walk
     m.up(cells::STACK, w.depth, w.row);
     Walk {
         row: first,
-        depth: more(w.depth),
+        depth: cells::plus(w.depth, 1),
         done: w.done,
     }
 }
@@ -256,7 +250,7 @@ fn leave(m: &Memory, w: Walk, v: usize) -> Walk
     Walk {
         row: m.rd(cells::SIBLING, v),
         depth: w.depth.saturating_sub(1),
-        done: more(w.done),
+        done: cells::plus(w.done, 1),
     }
 }
 

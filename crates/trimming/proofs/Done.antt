@@ -1,5 +1,5 @@
--- What step 4 leaves of the memory, on plain data: new are the rows of the element me, E and U the elements and variables of their lists before it, and what a row
--- keeps is told by the marks and weights before the first.
+-- What step 4 leaves of the memory, on plain data: new are the rows of the element me, E and U the elements and variables of their lists before it,
+-- and what a row keeps is told by the marks and weights before the first.
 -- Assumes nothing.
 use Rattle.std.proofs.Common.{◌≡◌, ℕ, suc, ◌+◌, ◌^◌, ◌<◌, ◌≤◌, min, Bool, false, cond, not, ◌&&◌, ◌||◌, eqb, ltb, ◌≢◌, List, [], ◌++◌, reverse, length, ℤ}
 use mathlib.Core.List.{flat_map}

@@ -1,3 +1,4 @@
 -- The definitions that the contracts of `trimming` cite.
+pub mod Merged
 pub mod Model
 pub mod Step

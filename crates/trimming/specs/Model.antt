@@ -1,6 +1,6 @@
 -- What each function does to the memory: the code's own steps, as functions. The laws of `proofs/` say what these mean for the lists.
 -- Assumes nothing.
-use Rattle.std.specs.Prelude.{◌≡◌, ℕ, ◌+◌, ◌-◌, ◌%◌, ◌^◌, ◌<◌, ◌≤◌, Bool, cond, ◌&&◌, List, length, ℤ, ◌==◌, nat_le, nat_lt}
+use Rattle.std.specs.Prelude.{◌≡◌, ℕ, ◌+◌, ◌-◌, ◌%◌, ◌≤◌, Bool, cond, ◌&&◌, List, length, ℤ, ◌==◌, nat_le, nat_lt}
 use Rattle.plain.specs.Turns.{times}
 use Rattle.cells.specs.Layout.{PE, LEN, WANT, ELEN, DEGREE, W, HHEAD, HNEXT, HKEY, MERGES, NV}
 use Rattle.cells.specs.View.{at, plus, rd, up, wr, wrapped}
@@ -83,10 +83,6 @@ took_weight n me i s = up n NV (up n NV s me (plus (rd n NV s me) (rd n NV s i))
 
 unfoldable pub buried : ℕ → ℕ → ℕ → ℕ → List ℤ → List ℤ
 buried n me i made s = up n MERGES (hang n (up n LEN s i 0) i (named n me)) made i
-
-pub record Few (t : Merged) : Type 0 where
-  pub weight : t.weight < 2 ^ 63
-  pub made : t.made < 2 ^ 63
 
 unfoldable pub massed : ℕ → ℕ → List ℤ → Merged → Merged
 massed n i s t = record { weight = plus t.weight (rd n NV s i); made = plus t.made 1 }

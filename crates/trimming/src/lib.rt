@@ -5,13 +5,15 @@
 ghost use Rattle.std.specs.Prelude.{◌≡◌, ◌+◌, ◌^◌, ◌<◌, ◌≤◌, ◌&&◌, length, ◌==◌};
 ghost use Rattle.cells.specs.Space.{SameSize};
 ghost use Rattle.cells.specs.View.{wr};
-ghost use Rattle.trimming.specs.Model.{Grown, counted, keeping, kept_live, kept_element, kept_elements, kept_variable, kept_variables, kept_all, weighed, took_weight, buried, massed, turned, sized, lowered, key_of, keyed, relisted, settled, Few, trimming, updated, updated_at, updated_all};
+ghost use Rattle.trimming.specs.Model.{Grown, counted, keeping, kept_live, kept_element, kept_elements, kept_variable, kept_variables, kept_all, took_weight, buried, massed, turned, sized, lowered, key_of, keyed, relisted, settled, trimming, updated, updated_at, updated_all};
 
-use cells::{Field, Memory};
+use cells::{Field, Memory, Part};
+use std::marker::Model;
 
 // ---- what is kept
 
 // Of a list: the place behind what is kept, the one behind its elements (once they are done), the sum of their sizes and weights, and that of their numbers.
+// No invariant puts `elements` at or before `end`: `count`, `keep_entry` and others are public and ask nothing of it, and a type may not ask more.
 #[derive(Clone, Copy)]
 pub struct Kept {
     pub elements: usize,
@@ -68,7 +70,7 @@ impl Rule {
 // Element `e` of mark `w`, which is there: kept, or dropped.
 #[tactic(auto, unfolding(crate::specs::Model::kept_live, crate::specs::Model::kept_entry))]
 pub fn keep_live(m: &mut Memory, r: Rule, e: usize, w: usize, k: Kept) -> Kept
-    requires { (e < m.old.n) × (w < 2 ^ 63) × (k.end < length m.old.lists) }
+    requires { (e < m.old.n) × (k.end < length m.old.lists) }
     ensures kept { keeping m.new.lists m.new.scratch result ≡ kept_live m.old.n r.me r.flag r.aggressive e w (keeping m.old.lists m.old.scratch k) }
     ensures size { SameSize m.old m.new }
     ensures grown { Grown k result }
@@ -96,23 +98,25 @@ pub fn keep_element(m: &mut Memory, r: Rule, q: usize, k: Kept) -> Kept
     if 0 < w { keep_live(m, r, e, w, k) } else { k }
 }
 
-// The `len` elements from `p` on: those that are kept move to the left.
+// The elements in a part of the lists: those that are kept move to the left.
+// By number, as every loop over a part here: its cells are read while others are written.
 #[tactic(auto, using(plain::proofs::Turns::begin, plain::proofs::Turns::finish), unfolding(crate::specs::Model::kept_elements))]
-pub fn keep_elements(m: &mut Memory, r: Rule, p: usize, len: usize) -> Kept
-    requires { p + len ≤ length m.old.lists }
-    ensures kept { keeping m.new.lists m.new.scratch result ≡ kept_elements m.old.n r.me r.flag r.aggressive p len m.old.lists m.old.scratch }
+pub fn keep_elements(m: &mut Memory, r: Rule, part: Part) -> Kept
+    requires { part.from + part.len ≤ length m.old.lists }
+    ensures kept { keeping m.new.lists m.new.scratch result
+        ≡ kept_elements m.old.n r.me r.flag r.aggressive part.from part.len m.old.lists m.old.scratch }
     ensures size { SameSize m.old m.new }
-    ensures within { (p ≤ result.end) × (result.end ≤ p + len) }
+    ensures within { (part.from ≤ result.end) × (result.end ≤ part.from + part.len) }
 {
     let mut k = Kept {
-        elements: p,
-        end: p,
+        elements: part.from,
+        end: part.from,
         deg: 0,
         sum: 0,
     };
-    prove!(len <= m.size() - p);
-    for t in 0..len {
-        k = keep_element(m, r, p + t, k);
+    prove!(part.len <= m.size() - part.from);
+    for t in 0..part.len {
+        k = keep_element(m, r, part.from + t, k);
     }
     k
 }
@@ -131,86 +135,75 @@ pub fn keep_variable(m: &mut Memory, q: usize, k: Kept) -> Kept
     if 0 < w { keep_entry(m, v, w, k) } else { k }
 }
 
-// The `len` variables from `from` on: those that are kept move to behind what is kept of the elements.
+// The variables in a part of the lists: those that are kept move to behind what is kept of the elements.
 #[tactic(auto, using(plain::proofs::Turns::begin, plain::proofs::Turns::finish), unfolding(crate::specs::Model::kept_variables))]
-pub fn keep_variables(m: &mut Memory, from: usize, len: usize, start: Kept) -> Kept
-    requires { (start.end ≤ from) × (from + len ≤ length m.old.lists) }
-    ensures kept { keeping m.new.lists m.new.scratch result ≡ kept_variables m.old.n from len (keeping m.old.lists m.old.scratch start) }
+pub fn keep_variables(m: &mut Memory, part: Part, start: Kept) -> Kept
+    requires { (start.end ≤ part.from) × (part.from + part.len ≤ length m.old.lists) }
+    ensures kept { keeping m.new.lists m.new.scratch result ≡ kept_variables m.old.n part.from part.len (keeping m.old.lists m.old.scratch start) }
     ensures size { SameSize m.old m.new }
     ensures scratch { m.new.scratch ≡ m.old.scratch }
     ensures elements { result.elements ≡ start.end }
-    ensures within { (start.end ≤ result.end) × (result.end ≤ from + len) }
+    ensures within { (start.end ≤ result.end) × (result.end ≤ part.from + part.len) }
 {
     let mut k = Kept {
         elements: start.end,
         ..start
     };
-    prove!(len <= m.size() - from);
-    for t in 0..len {
-        k = keep_variable(m, from + t, k);
+    prove!(part.len <= m.size() - part.from);
+    for t in 0..part.len {
+        k = keep_variable(m, part.from + t, k);
     }
     k
 }
 
-// What is kept of the list of `len` cells from `p` on, `elen` of them elements.
+// What is kept of the list in a part of the lists, whose first `elen` cells are elements.
 #[tactic(auto, unfolding(crate::specs::Model::kept_all))]
-pub fn keep_all(m: &mut Memory, r: Rule, p: usize, elen: usize, len: usize) -> Kept
-    requires { (elen ≤ len) × (p + len ≤ length m.old.lists) }
-    ensures kept { keeping m.new.lists m.new.scratch result ≡ kept_all m.old.n r.me r.flag r.aggressive p elen len m.old.lists m.old.scratch }
+pub fn keep_all(m: &mut Memory, r: Rule, part: Part, elen: usize) -> Kept
+    requires { (elen ≤ part.len) × (part.from + part.len ≤ length m.old.lists) }
+    ensures kept { keeping m.new.lists m.new.scratch result
+        ≡ kept_all m.old.n r.me r.flag r.aggressive part.from elen part.len m.old.lists m.old.scratch }
     ensures size { SameSize m.old m.new }
-    ensures within { (p ≤ result.elements) × (result.elements ≤ result.end) }
+    ensures within { (part.from ≤ result.elements) × (result.elements ≤ result.end) }
 {
-    prove!(len <= m.size() - p);
-    let first = keep_elements(m, r, p, elen);
-    keep_variables(m, p + elen, len - elen, first)
+    prove!(part.len <= m.size() - part.from);
+    let elements = Part { len: elen, ..part };
+    let first = keep_elements(m, r, elements);
+    let variables = Part {
+        from: part.from + elen,
+        len: part.len - elen,
+    };
+    keep_variables(m, variables, first)
 }
 
 // ---- nothing is kept
 
-// The weight of `i` goes to `me`. It is the result.
-#[tactic(auto, unfolding(crate::specs::Model::took_weight))]
-pub fn take_weight(m: &mut Memory, me: usize, i: usize) -> usize
-    requires { (me < m.old.n) × (i < m.old.n) }
-    ensures weight { result ≡ weighed m.old.n i m.old.scratch }
-    ensures took { m.new ≡ record m.old { scratch = took_weight m.old.n me i m.old.scratch } }
-    ensures small { result < 2 ^ 63 }
-{
-    let w = m.get(Field::Nv, i);
-    let old = m.get(Field::Nv, me);
-    m.set(Field::Nv, me, cells::plus(old, w));
-    m.set(Field::Nv, i, 0);
-    w
-}
-
-// Row `i` has no list, is a child of `me`, and the `made`-th of the log.
-#[tactic(auto, unfolding(crate::specs::Model::buried))]
-pub fn bury(m: &mut Memory, me: usize, i: usize, made: usize)
-    requires { i < m.old.n }
-    ensures { m.new ≡ record m.old { scratch = buried m.old.n me i made m.old.scratch } }
-{
-    prove!(i < m.columns());
-    m.set(Field::Len, i, 0);
-    m.put_parent(i, Some(me));
-    m.up(Field::Merges, made, i);
-}
-
-// The weight merged into the pivot so far, and the rows in the log. `Few` is no ghost field: `massed` and `updated_all` of specs/ make one of any numbers.
+// The weight merged into the pivot so far, and the rows in the log: both are numbers of a cell.
 #[derive(Clone, Copy)]
 pub struct Merged {
     pub weight: usize,
     pub made: usize,
 }
 
+impl Model for Merged {
+    ghost use Rattle.trimming.specs.Merged.{Totals, Few};
+
+    ghost Value = { Totals };
+
+    ghost view = { λ t. record { weight = t.weight; made = t.made } };
+
+    ghost invariant = { λ t. Few (record { weight = t.weight; made = t.made }) };
+
+    ghost inverse = { λ c. record { weight = c.weight; made = c.made } };
+}
+
 // Row `i` is eliminated with the pivot.
-#[tactic(auto, unfolding(crate::specs::Model::massed))]
+#[tactic(auto, unfolding(packed::specs::Model::joined_row, crate::specs::Model::massed, crate::specs::Model::buried, crate::specs::Model::took_weight))]
 pub fn mass_eliminate(m: &mut Memory, me: usize, i: usize, t: Merged) -> Merged
-    requires { (me < m.old.n) × (i < m.old.n) × Few t }
+    requires { (me < m.old.n) × (i < m.old.n) }
     ensures massed { result ≡ massed m.old.n i m.old.scratch t }
     ensures buried { m.new ≡ record m.old { scratch = buried m.old.n me i t.made (took_weight m.old.n me i m.old.scratch) } }
-    ensures few { Few result }
 {
-    let w = take_weight(m, me, i);
-    bury(m, me, i, t.made);
+    let w = packed::join(m, me, i, t.made);
     Merged {
         weight: cells::plus(t.weight, w),
         made: cells::plus(t.made, 1),
@@ -294,29 +287,27 @@ pub fn relist(m: &mut Memory, me: usize, i: usize, p: usize, k: Kept)
 
 // ---- the rows of the new element
 
-// Row `i`, whose list of `len` cells from `p` on, `elen` of them elements, is there. It keeps fewer, so there is a cell behind it: that is asked once, too.
+// Row `i`, whose list, `elen` elements and then variables, is there. It keeps fewer, so there is a cell behind it: that is asked once, too.
 #[tactic(auto, unfolding(crate::specs::Model::settled, crate::specs::Model::renewed))]
 pub fn update_inside(
     m: &mut Memory,
     r: Rule,
     i: usize,
-    p: usize,
+    part: Part,
     elen: usize,
-    len: usize,
     t: Merged,
 ) -> Merged
-    requires { (r.me < m.old.n) × (i < m.old.n) × (elen ≤ len) × (p + len ≤ length m.old.lists) × Few t }
+    requires { (r.me < m.old.n) × (i < m.old.n) × (elen ≤ part.len) × (part.from + part.len ≤ length m.old.lists) }
     ensures settled { trimming m.new.lists m.new.scratch result
-        ≡ settled m.old.n r.me i p (kept_all m.old.n r.me r.flag r.aggressive p elen len m.old.lists m.old.scratch) t }
+        ≡ settled m.old.n r.me i part.from (kept_all m.old.n r.me r.flag r.aggressive part.from elen part.len m.old.lists m.old.scratch) t }
     ensures size { SameSize m.old m.new }
-    ensures few { Few result }
 {
-    let k = keep_all(m, r, p, elen, len);
-    if k.end <= p {
+    let k = keep_all(m, r, part, elen);
+    if k.end <= part.from {
         return mass_eliminate(m, r.me, i, t);
     }
     if k.end < m.size() {
-        relist(m, r.me, i, p, k);
+        relist(m, r.me, i, part.from, k);
     }
     t
 }
@@ -324,16 +315,17 @@ pub fn update_inside(
 // Row `i`. Whether its list is there is asked once.
 #[tactic(auto, unfolding(crate::specs::Model::updated))]
 pub fn update_variable(m: &mut Memory, r: Rule, i: usize, t: Merged) -> Merged
-    requires { (r.me < m.old.n) × (i < m.old.n) × Few t }
+    requires { (r.me < m.old.n) × (i < m.old.n) }
     ensures updated { trimming m.new.lists m.new.scratch result ≡ updated m.old.n r.me r.flag r.aggressive i (trimming m.old.lists m.old.scratch t) }
     ensures size { SameSize m.old m.new }
-    ensures few { Few result }
 {
-    let p = m.get(Field::Pe, i);
+    let list = Part {
+        from: m.get(Field::Pe, i),
+        len: m.get(Field::Len, i),
+    };
     let elen = m.get(Field::Elen, i);
-    let len = m.get(Field::Len, i);
-    if elen <= len && p + len <= m.size() {
-        update_inside(m, r, i, p, elen, len, t)
+    if elen <= list.len && list.from + list.len <= m.size() {
+        update_inside(m, r, i, list, elen, t)
     } else {
         t
     }
@@ -342,27 +334,26 @@ pub fn update_variable(m: &mut Memory, r: Rule, i: usize, t: Merged) -> Merged
 // The row in cell `q` of the lists.
 #[tactic(auto, unfolding(crate::specs::Model::updated_at))]
 pub fn update_at(m: &mut Memory, r: Rule, q: usize, t: Merged) -> Merged
-    requires { (r.me < m.old.n) × (q < length m.old.lists) × Few t }
+    requires { (r.me < m.old.n) × (q < length m.old.lists) }
     ensures updated { trimming m.new.lists m.new.scratch result ≡ updated_at m.old.n r.me r.flag r.aggressive q (trimming m.old.lists m.old.scratch t) }
     ensures size { SameSize m.old m.new }
-    ensures few { Few result }
 {
     let i = m.row(q);
     update_variable(m, r, i, t)
 }
 
-// The `len` rows of the new element, from `from` on in the lists; `made` rows are in the log before.
+// The rows of the new element, as far as its part of the lists is there; `made` rows are in the log before.
 #[tactic(auto, using(plain::proofs::Turns::begin, plain::proofs::Turns::finish), unfolding(crate::specs::Model::updated_all))]
-pub fn update_all(m: &mut Memory, r: Rule, from: usize, len: usize, made: usize) -> Merged
-    requires { (r.me < m.old.n) × (from < 2 ^ 63) × (len < 2 ^ 63) × (made < 2 ^ 63) }
-    ensures updated { trimming m.new.lists m.new.scratch result ≡ updated_all m.old.n r.me r.flag r.aggressive from len made m.old.lists m.old.scratch }
+pub fn update_all(m: &mut Memory, r: Rule, part: Part, made: usize) -> Merged
+    requires { (r.me < m.old.n) × (made < 2 ^ 63) }
+    ensures updated { trimming m.new.lists m.new.scratch result
+        ≡ updated_all m.old.n r.me r.flag r.aggressive part.from part.len made m.old.lists m.old.scratch }
     ensures size { SameSize m.old m.new }
-    ensures few { Few result }
 {
-    let turns = m.clip(from, len);
+    let turns = m.clip(part);
     let mut t = Merged { weight: 0, made };
     for j in 0..turns {
-        t = update_at(m, r, from + j, t);
+        t = update_at(m, r, part.from + j, t);
     }
     t
 }

@@ -1,5 +1,4 @@
 use Rattle.cells.specs.Space.{SameSize}
-use Rattle.elimination.specs.Model.{Small}
 use Rattle.elimination.proofs.Steps.{Running}
 use Rattle.elimination.proofs.eliminate_all.Given as goal
 
@@ -7,5 +6,4 @@ abbrev pub invariant-loop : goal.invariant-loop
 invariant-loop l = record {
   running : Running l.fn.m.n l.aggressive l.dense l.fn.m.n l.fn.m.lists l.fn.m.scratch l.fn.start l.counter l.m.lists l.m.scratch l.w;
   size : SameSize l.fn.m l.m;
-  small : Small l.w.turn;
 }

@@ -3,7 +3,7 @@ use Rattle.merging.proofs.Walks.{MarkedTo}
 use Rattle.merging.proofs.all_marked.Given as goal
 
 abbrev pub invariant-entries : goal.invariant-entries
-invariant-entries l = MarkedTo l.m.lists l.m.n l.m.scratch l.p l.flag l.t × (l.t ≤ l.there)
+invariant-entries l = MarkedTo l.m.lists l.m.n l.m.scratch l.part.from l.flag l.t × (l.t ≤ l.there)
 
 abbrev pub decreases-entries : goal.decreases-entries
 decreases-entries l = l.there - l.t

@@ -6,5 +6,5 @@ use Rattle.plain.specs.Turns.{Turned}
 use Rattle.packed.proofs.take_elements.Given as goal
 
 abbrev pub invariant-loop-i : goal.invariant-loop-i
-invariant-loop-i l = Turned (λ j. took_element l.initial.m.n l.me l.quota l.initial.m.lists (at l.initial.m.lists (l.p + j))) (taking l.initial.m.scratch l.initial.t) l.i (taking l.m.scratch l.t)
+invariant-loop-i l = Turned (λ j. took_element l.initial.m.n l.me l.quota l.initial.m.lists (at l.initial.m.lists (l.part.from + j))) (taking l.initial.m.scratch l.initial.t) l.i (taking l.m.scratch l.t)
     × SameLists l.initial.m l.m × Tabled l.initial.m.n l.m.scratch l.t.cnt × (l.i ≤ l.there)

@@ -8,4 +8,4 @@ use Rattle.sizing.proofs.size_all.Goals as goal
 pub loop-t-preserved : goal.loop-t-preserved
 unfolding times weighed_row wrapped
 loop-t-preserved c =
-    search (rules, weight_stays c.args.m.now c.loop-t.m c.args.flag c.args.from c.loop-t.t (c.args.from + c.loop-t.t) c.loop-t.invariant.marks)
+    search (rules, weight_stays c.args.m.now c.loop-t.m c.args.flag c.args.part.from c.loop-t.t (c.args.part.from + c.loop-t.t) c.loop-t.invariant.marks)
