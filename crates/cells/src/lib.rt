@@ -3,7 +3,8 @@
 // A number of a cell is below 2 ^ 63, and contracts say so where one is stored; a type for it would wrap each index, sum and comparison, and be no plainer.
 #![tactic(auto)]
 
-ghost use Rattle.std.specs.Prelude.{◌≡◌, ◌<◌, ◌^◌, length, replicate, pos};
+ghost use Rattle.std.specs.Prelude.{◌≡◌, ◌-◌, ◌<◌, ◌≤◌, ◌^◌, length, replicate, pos};
+ghost use Rattle.cells.specs.Rows.{Rows, clipped};
 ghost use Rattle.cells.specs.View.{nat, at, wr, plus, negative};
 
 pub use field::{Field, LARGEST, SIBLING, SP, STACK, TMP, TP};
@@ -65,6 +66,53 @@ pub fn put32(out: &mut [i32], i: usize, v: usize)
     if i < out.len() {
         out[i] = v as i32;
     }
+}
+
+// ---- rows in a list space, over the slice alone: `Memory` has them as methods
+
+// The row in cell `q`.
+#[tactic(auto, using(crate::proofs::Rows::rows_low, crate::proofs::Rows::rows_calm))]
+pub fn row(l: &[i64], n: usize, q: usize) -> usize
+    requires { Rows n l.now × (q < length l.now) }
+    ensures { (result ≡ at l.now q) × (result < n) × (result < 2 ^ 63) }
+{
+    memory::fetch(l, q)
+}
+
+// Cell `q` becomes row `v`.
+#[tactic(auto, using(crate::proofs::Rows::rows_wr))]
+pub fn put_row(l: &mut [i64], n: usize, q: usize, v: usize)
+    requires { Rows n l.old × (q < length l.old) × (v < n) × (v < 2 ^ 63) }
+    ensures { (l.new ≡ wr l.old q v) × Rows n l.new }
+{
+    memory::store(l, q, v);
+}
+
+// The same; nothing is done where there is no such cell.
+#[tactic(auto, using(crate::proofs::Rows::rows_wr))]
+pub fn poke_row(l: &mut [i64], n: usize, q: usize, v: usize)
+    requires { Rows n l.old × (v < n) × (v < 2 ^ 63) }
+    ensures { (l.new ≡ wr l.old q v) × Rows n l.new }
+{
+    memory::poke(l, q, v);
+}
+
+// Cell `e` becomes what cell `p` is.
+#[tactic(auto, using(crate::proofs::Rows::rows_copy))]
+pub fn copy_row(l: &mut [i64], n: usize, p: usize, e: usize)
+    requires { Rows n l.old }
+    ensures { (l.new ≡ wr l.old e (at l.old p)) × Rows n l.new }
+{
+    let x = memory::peek(l, p);
+    memory::poke(l, e, x);
+}
+
+// How many cells of a part are there, of `size` in all: a loop over them asks once, and counts, since rows are read while fields are stored.
+#[tactic(auto, unfolding(crate::specs::Rows::clipped))]
+pub fn clip(size: usize, part: Part) -> usize
+    ensures { (result ≡ clipped size part.from part.len) × (result ≤ part.len) × (result ≤ size - part.from) }
+{
+    part.len.min(size.saturating_sub(part.from))
 }
 
 // ---- sums

@@ -10,7 +10,7 @@ ghost use Rattle.cells.specs.Field.{field_number};
 ghost use Rattle.cells.specs.Space.{Fits};
 
 use crate::field::Field;
-use crate::{Part, clear, natural};
+use crate::{Part, clear, clip, copy_row, natural, poke_row, put_row, row};
 use std::marker::Model;
 
 // ---- a cell of a slice
@@ -26,7 +26,7 @@ fn load(l: &[i64], i: usize) -> usize
 
 // The number in cell `i`, which is not negative.
 #[tactic(auto, unfolding(crate::specs::View::at, crate::specs::View::negative))]
-fn fetch(l: &[i64], i: usize) -> usize
+pub(crate) fn fetch(l: &[i64], i: usize) -> usize
     requires { (i < length l.now) × (negative l.now i ≡ false) }
     ensures { (result ≡ at l.now i) × (result < 2 ^ 63) }
 {
@@ -36,7 +36,7 @@ fn fetch(l: &[i64], i: usize) -> usize
 
 // Cell `i` becomes `v`.
 #[tactic(auto, unfolding(crate::specs::View::wr))]
-fn store(l: &mut [i64], i: usize, v: usize)
+pub(crate) fn store(l: &mut [i64], i: usize, v: usize)
     requires { (i < length l.old) × (v < 2 ^ 63) }
     ensures { l.new ≡ wr l.old i v }
 {
@@ -45,7 +45,7 @@ fn store(l: &mut [i64], i: usize, v: usize)
 
 // The number in cell `i`; 0 where there is no such cell.
 #[tactic(auto, unfolding(crate::specs::View::at))]
-fn peek(l: &[i64], i: usize) -> usize
+pub(crate) fn peek(l: &[i64], i: usize) -> usize
     ensures { (result ≡ at l.now i) × (result < 2 ^ 63) }
 {
     if i < l.len() { load(l, i) } else { 0 }
@@ -53,7 +53,7 @@ fn peek(l: &[i64], i: usize) -> usize
 
 // Cell `i` becomes `v`; nothing is done where there is no such cell.
 #[tactic(auto, unfolding(crate::specs::View::wr))]
-fn poke(l: &mut [i64], i: usize, v: usize)
+pub(crate) fn poke(l: &mut [i64], i: usize, v: usize)
     requires { v < 2 ^ 63 }
     ensures { l.new ≡ wr l.old i v }
 {
@@ -205,54 +205,47 @@ impl<'a> Memory<'a> {
     }
 
     /// How many cells of a part are there: a loop over them asks once, and counts, since rows are read while fields are stored.
-    #[tactic(auto, unfolding(crate::specs::Rows::clipped))]
     pub fn clip(&self, part: Part) -> usize
         ensures clipped { result ≡ clipped (length self.now.lists) part.from part.len }
         ensures within { (result ≤ part.len) × (result ≤ length self.now.lists - part.from) }
         ensures bound { length self.now.lists < 2 ^ 60 }
     {
-        part.len.min(self.rows.len().saturating_sub(part.from))
+        clip(self.rows.len(), part)
     }
 
     /// The row in cell `q`.
-    #[tactic(auto, using(crate::proofs::Rows::rows_low, crate::proofs::Rows::rows_calm))]
     pub fn row(&self, q: usize) -> usize
         requires { q < length self.now.lists }
         ensures read { (result ≡ at self.now.lists q) × (result < self.now.n) × (result < 2 ^ 63) }
         ensures bound { self.now.n < 2 ^ 56 }
     {
-        fetch(self.rows, q)
+        row(self.rows, self.columns, q)
     }
 
     /// Cell `q` becomes row `v`.
-    #[tactic(auto, using(crate::proofs::Rows::rows_wr))]
     pub fn put_row(&mut self, q: usize, v: usize)
         requires { (q < length self.old.lists) × (v < self.old.n) }
         ensures put { self.new ≡ record self.old { lists = wr self.old.lists q v } }
         ensures size { length self.new.lists ≡ length self.old.lists }
     {
-        store(self.rows, q, v);
+        put_row(self.rows, self.columns, q, v);
     }
 
     /// The same; nothing is done where there is no such cell.
-    #[tactic(auto, using(crate::proofs::Rows::rows_wr))]
     pub fn poke_row(&mut self, q: usize, v: usize)
         requires { v < self.old.n }
         ensures put { self.new ≡ record self.old { lists = wr self.old.lists q v } }
         ensures size { length self.new.lists ≡ length self.old.lists }
     {
-        poke(self.rows, q, v);
+        poke_row(self.rows, self.columns, q, v);
     }
 
     /// Cell `e` becomes what cell `p` is.
-    #[tactic(auto, using(crate::proofs::Rows::rows_copy))]
     pub fn copy_row(&mut self, p: usize, e: usize)
         ensures put { self.new ≡ record self.old { lists = wr self.old.lists e (at self.old.lists p) } }
         ensures size { length self.new.lists ≡ length self.old.lists }
     {
-        let rows = &mut *self.rows;
-        let x = peek(rows, p);
-        poke(rows, e, x);
+        copy_row(self.rows, self.columns, p, e);
     }
 
     // ---- a field of the scratch

@@ -16,6 +16,7 @@ use numbers::Statistics;
 use packed::Made;
 use placing::Restored;
 use std::marker::Model;
+use trimming::Rule;
 
 // What a pivot takes over from the one before: how many variables are gone, the least degree, the flag, the largest remaining weight of an element, the merges
 // in the log, where the elements made at the free end begin, the free end, how many are made there, and the collections so far. All but `base` are numbers of
@@ -54,29 +55,16 @@ pub struct Reduced {
     pub merges: usize,
 }
 
-// Steps 3 and 4 for the new element of `me`, in the part of the lists. `aggressive` is a setting, read at one test (`trimming::Rule::swallows`): a closure
-// for it would be no plainer.
+// Steps 3 and 4 for the new element of a rule's pivot, in the part of the lists.
 #[tactic(auto, unfolding(crate::specs::Model::reduced, crate::specs::Model::trimmed_rows))]
-fn reduce(
-    m: &mut Memory,
-    me: usize,
-    part: Part,
-    aggressive: bool,
-    flag: usize,
-    merges: usize,
-) -> Reduced
-    requires { (me < m.old.n) × (flag < 2 ^ 63) × (merges < 2 ^ 63) }
-    ensures reduced { reduction m.new.lists m.new.scratch result ≡ reduced m.old.n me part.from part.len aggressive flag merges m.old.lists m.old.scratch }
+fn reduce(m: &mut Memory, r: Rule, part: Part, merges: usize) -> Reduced
+    requires { (r.me < m.old.n) × (r.flag < 2 ^ 63) × (merges < 2 ^ 63) }
+    ensures reduced { reduction m.new.lists m.new.scratch result ≡ reduced m.old.n r.me part.from part.len r.aggressive r.flag merges m.old.lists m.old.scratch }
     ensures size { SameSize m.old m.new }
     ensures small { (result.size < 2 ^ 63) × (result.merges < 2 ^ 63) }
 {
-    let all = sizing::size_all(m, part, flag);
-    let rule = trimming::Rule {
-        me,
-        flag,
-        aggressive,
-    };
-    let t = trimming::update_all(m, rule, part, merges);
+    let all = sizing::size_all(m, part, r.flag);
+    let t = trimming::update_all(m, r, part, merges);
     Reduced {
         size: all.saturating_sub(t.weight),
         merges: t.made,
@@ -112,6 +100,7 @@ impl Model for Met {
     ghost inverse = { λ v. record { size = v.size; most = v.most; flag = v.flag; merges = v.merges } };
 }
 
+// `aggressive` is a setting: it goes down to the one test that asks it (`Rule::swallows`), as the models have it.
 // Steps 3 to 5. The flag rises above every counter of step 3 before step 5 marks with it.
 #[tactic(auto, unfolding(crate::specs::Model::met, crate::specs::Model::compared))]
 fn meet(m: &mut Memory, me: usize, part: Part, aggressive: bool, t: Turn) -> Met
@@ -119,7 +108,12 @@ fn meet(m: &mut Memory, me: usize, part: Part, aggressive: bool, t: Turn) -> Met
     ensures met { meeting m.new.lists m.new.scratch result ≡ met m.old.n me part.from part.len aggressive t m.old.lists m.old.scratch }
     ensures size { SameSize m.old m.new }
 {
-    let r = reduce(m, me, part, aggressive, t.flag, t.merges);
+    let rule = Rule {
+        me,
+        flag: t.flag,
+        aggressive,
+    };
+    let r = reduce(m, rule, part, t.merges);
     let most = t.most.max(r.size);
     let start = Tally {
         flag: raise_flag(t.flag, most),

@@ -228,7 +228,7 @@ fn enter(m: &mut Memory, w: Walk) -> Walk
     Walk {
         row: first,
         depth: cells::plus(w.depth, 1),
-        done: w.done,
+        ..w
     }
 }
 
