@@ -8,7 +8,9 @@ ghost use Rattle.cells.specs.Rows.{Rows, clipped};
 ghost use Rattle.cells.specs.View.{nat, at, wr, plus, negative};
 
 pub use field::{Field, LARGEST, SIBLING, SP, STACK, TMP, TP};
-pub use memory::Memory;
+pub use memory::{
+    Memory, column, entry, get, parent, put_column, put_entry, put_parent, rd, set, set_parent, up,
+};
 
 mod field;
 mod memory;
@@ -123,4 +125,18 @@ pub fn plus(a: usize, b: usize) -> usize
     ensures { (result ≡ plus a b) × (result < 2 ^ 63) }
 {
     a.saturating_add(b).min(0x7fff_ffff_ffff_ffff)
+}
+
+// One more, or the largest number that a cell holds: of a number of a cell, so that it takes two instructions, in the loops over the pattern's entries.
+#[tactic(auto, unfolding(crate::specs::View::plus))]
+pub fn one_more(a: usize) -> usize
+    requires { a < 2 ^ 63 }
+    ensures { (result ≡ plus a 1) × (result < 2 ^ 63) }
+{
+    let c = a + 1;
+    if c < 0x8000_0000_0000_0000 {
+        c
+    } else {
+        0x7fff_ffff_ffff_ffff
+    }
 }

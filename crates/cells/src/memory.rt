@@ -137,6 +137,133 @@ fn link_of(x: i64) -> Option<usize>
     }
 }
 
+// ---- the fields of a scratch, over the slice alone: `Memory` has them as methods
+
+// The field of node `i`. Of all fields PE alone may have a negative cell.
+#[tactic(auto, using(crate::proofs::Spaces::field_small, crate::proofs::Spaces::field_above, crate::proofs::Steps::field_calm), unfolding(crate::specs::View::rd, crate::specs::View::within))]
+pub fn get(s: &[i64], n: usize, field: Field, i: usize) -> usize
+    requires { (i < n) × Room n s.now }
+    ensures { (result ≡ rd n (field_number field) s.now i) × (result < 2 ^ 63) }
+{
+    let cell = place(field, n, i);
+    match field {
+        Field::Pe => load(s, cell),
+        _ => fetch(s, cell),
+    }
+}
+
+// The field of node `i` becomes `v`.
+#[tactic(auto, using(crate::proofs::Spaces::field_small, crate::proofs::Steps::room_field), unfolding(crate::specs::View::up, crate::specs::View::within))]
+pub fn set(s: &mut [i64], n: usize, field: Field, i: usize, v: usize)
+    requires { (i < n) × Room n s.old × (v < 2 ^ 63) }
+    ensures { (s.new ≡ up n (field_number field) s.old i v) × Room n s.new }
+{
+    store(s, place(field, n, i), v);
+}
+
+// The field of node `i`; 0 where `i` is not below `n`.
+#[tactic(auto, using(crate::proofs::Spaces::field_small), unfolding(crate::specs::View::rd, crate::specs::View::within))]
+pub fn rd(s: &[i64], n: usize, field: Field, i: usize) -> usize
+    requires { Room n s.now }
+    ensures { (result ≡ rd n (field_number field) s.now i) × (result < 2 ^ 63) }
+{
+    if n <= i {
+        return 0;
+    }
+    get(s, n, field, i)
+}
+
+// The field of node `i` becomes `v`; nothing is done where `i` is not below `n`.
+#[tactic(auto, using(crate::proofs::Spaces::field_small), unfolding(crate::specs::View::up, crate::specs::View::within))]
+pub fn up(s: &mut [i64], n: usize, field: Field, i: usize, v: usize)
+    requires { Room n s.old × (v < 2 ^ 63) }
+    ensures { (s.new ≡ up n (field_number field) s.old i v) × Room n s.new }
+{
+    if i < n {
+        set(s, n, field, i, v);
+    }
+}
+
+// The pointer of column `k`; 0 where `k` is above `n`.
+#[tactic(auto, using(crate::proofs::Steps::column_calm), unfolding(crate::specs::View::rd, crate::specs::View::within, crate::specs::View::place))]
+pub fn column(s: &[i64], n: usize, k: usize) -> usize
+    requires { Room n s.now }
+    ensures { (result ≡ rd n COLUMN s.now k) × (result < 2 ^ 63) }
+{
+    if k <= n { fetch(s, 15 * n + k) } else { 0 }
+}
+
+// The pointer of column `k` becomes `v`; nothing is done where `k` is above `n`.
+#[tactic(auto, using(crate::proofs::Steps::room_column), unfolding(crate::specs::View::up, crate::specs::View::within, crate::specs::View::place))]
+pub fn put_column(s: &mut [i64], n: usize, k: usize, v: usize)
+    requires { Room n s.old × (v < 2 ^ 63) }
+    ensures { (s.new ≡ up n COLUMN s.old k v) × Room n s.new }
+{
+    if k <= n {
+        store(s, 15 * n + k, v);
+    }
+}
+
+// Row `p` of the pattern; 0 where there is no room for it.
+#[tactic(auto, using(crate::proofs::Steps::entry_calm), unfolding(crate::specs::View::rd, crate::specs::View::within, crate::specs::View::place, crate::specs::View::at))]
+pub fn entry(s: &[i64], n: usize, p: usize) -> usize
+    requires { Room n s.now }
+    ensures { (result ≡ rd n ENTRY s.now p) × (result < 2 ^ 63) }
+{
+    let from = 16 * n + 16;
+    if p < s.len() - from {
+        fetch(s, from + p)
+    } else {
+        0
+    }
+}
+
+// Row `p` of the pattern becomes `v`; nothing is done where there is no room for it.
+#[tactic(auto, using(crate::proofs::Steps::room_entry), unfolding(crate::specs::View::up, crate::specs::View::within, crate::specs::View::place, crate::specs::View::wr))]
+pub fn put_entry(s: &mut [i64], n: usize, p: usize, v: usize)
+    requires { Room n s.old × (v < 2 ^ 63) }
+    ensures { (s.new ≡ up n ENTRY s.old p v) × Room n s.new }
+{
+    let from = 16 * n + 16;
+    if p < s.len() - from {
+        store(s, from + p, v);
+    }
+}
+
+// The parent of object `i`.
+#[tactic(auto, unfolding(crate::specs::Links::parent, crate::specs::View::place))]
+pub fn parent(s: &[i64], n: usize, i: usize) -> Option<usize>
+    requires { Room n s.now }
+    ensures named { MatchOption result (parent n s.now i ≡ none) (λ p. parent n s.now i ≡ some p) }
+    ensures small { IfSome result (λ p. p < 2 ^ 63) }
+{
+    if i < n {
+        link_of(signed(s, 8 * i))
+    } else {
+        None
+    }
+}
+
+// Object `i` gets the parent `p`, or none where `p` is not below `n`.
+#[tactic(auto, unfolding(crate::specs::Links::hang, crate::specs::View::place))]
+pub fn set_parent(s: &mut [i64], n: usize, i: usize, p: Option<usize>)
+    requires { Room n s.old × (i < n) }
+    ensures { (s.new ≡ hang n s.old i (named n (unwrap_or p n))) × Room n s.new }
+{
+    store_signed(s, 8 * i, code_of(n, p));
+}
+
+// The same; nothing is done where `i` is not below `n`.
+#[tactic(auto, unfolding(crate::specs::Links::hang))]
+pub fn put_parent(s: &mut [i64], n: usize, i: usize, p: Option<usize>)
+    requires { Room n s.old }
+    ensures { (s.new ≡ hang n s.old i (named n (unwrap_or p n))) × Room n s.new }
+{
+    if i < n {
+        set_parent(s, n, i, p);
+    }
+}
+
 /// The two workspaces of an ordering of `n` columns, as they are lent: fixed memory is a rule of the project, so the scratch is an arena of fields. Clauses see
 /// the number of columns and both as lists. Every cell of the list space holds a row, and of the fields of the scratch the place of a list alone may be below
 /// 0, where it is a parent. What ties a number to the memory (a row below n, a cell below the size) stays a clause: the number does not hold the memory.
@@ -184,6 +311,20 @@ impl<'a> Memory<'a> {
         clear(lists);
         clear(scratch);
         Self::over(columns, lists, scratch)
+    }
+
+    /// Both workspaces, given back: what they hold is known behind these.
+    pub fn into_parts(self) -> (&'a mut [i64], &'a mut [i64])
+        ensures lists { result.0.now ≡ self.entry.lists }
+        ensures scratch { result.1.now ≡ self.entry.scratch }
+        ensures fits { Fits self.entry }
+    {
+        let Memory {
+            columns: _,
+            rows,
+            fields,
+        } = self;
+        (rows, fields)
     }
 
     /// The number of columns, with what is true of every memory.
@@ -251,49 +392,36 @@ impl<'a> Memory<'a> {
     // ---- a field of the scratch
 
     /// The field of node `i`.
-    #[tactic(auto, using(crate::proofs::Spaces::field_small, crate::proofs::Spaces::field_above, crate::proofs::Steps::field_calm), unfolding(crate::specs::View::rd, crate::specs::View::within))]
     pub fn get(&self, field: Field, i: usize) -> usize
         requires { i < self.now.n }
         ensures read { (result ≡ rd self.now.n (field_number field) self.now.scratch i) × (result < 2 ^ 63) }
         ensures bound { self.now.n < 2 ^ 56 }
     {
-        let cell = place(field, self.columns, i);
-        match field {
-            Field::Pe => load(self.fields, cell),
-            _ => fetch(self.fields, cell),
-        }
+        get(self.fields, self.columns, field, i)
     }
 
     /// The field of node `i` becomes `v`.
-    #[tactic(auto, using(crate::proofs::Spaces::field_small, crate::proofs::Steps::room_field), unfolding(crate::specs::View::up, crate::specs::View::within))]
     pub fn set(&mut self, field: Field, i: usize, v: usize)
         requires { (i < self.old.n) × (v < 2 ^ 63) }
         ensures { self.new ≡ record self.old { scratch = up self.old.n (field_number field) self.old.scratch i v } }
     {
-        store(self.fields, place(field, self.columns, i), v);
+        set(self.fields, self.columns, field, i, v);
     }
 
     /// The field of node `i`; 0 where `i` is not below `n`.
-    #[tactic(auto, using(crate::proofs::Spaces::field_small), unfolding(crate::specs::View::rd, crate::specs::View::within))]
     pub fn rd(&self, field: Field, i: usize) -> usize
         ensures read { (result ≡ rd self.now.n (field_number field) self.now.scratch i) × (result < 2 ^ 63) }
         ensures bound { self.now.n < 2 ^ 56 }
     {
-        if self.columns <= i {
-            return 0;
-        }
-        self.get(field, i)
+        rd(self.fields, self.columns, field, i)
     }
 
     /// The field of node `i` becomes `v`; nothing is done where `i` is not below `n`.
-    #[tactic(auto, using(crate::proofs::Spaces::field_small), unfolding(crate::specs::View::up, crate::specs::View::within))]
     pub fn up(&mut self, field: Field, i: usize, v: usize)
         requires { v < 2 ^ 63 }
         ensures { self.new ≡ record self.old { scratch = up self.old.n (field_number field) self.old.scratch i v } }
     {
-        if i < self.columns {
-            self.set(field, i, v);
-        }
+        up(self.fields, self.columns, field, i, v);
     }
 
     /// The field of every node becomes `v`.
@@ -310,84 +438,57 @@ impl<'a> Memory<'a> {
     // ---- the cleaned pattern
 
     /// The pointer of column `k`; 0 where `k` is above `n`.
-    #[tactic(auto, using(crate::proofs::Steps::column_calm), unfolding(crate::specs::View::rd, crate::specs::View::within, crate::specs::View::place))]
     pub fn column(&self, k: usize) -> usize
         ensures { (result ≡ rd self.now.n COLUMN self.now.scratch k) × (result < 2 ^ 63) }
     {
-        if k <= self.columns {
-            fetch(self.fields, 15 * self.columns + k)
-        } else {
-            0
-        }
+        column(self.fields, self.columns, k)
     }
 
     /// The pointer of column `k` becomes `v`; nothing is done where `k` is above `n`.
-    #[tactic(auto, using(crate::proofs::Steps::room_column), unfolding(crate::specs::View::up, crate::specs::View::within, crate::specs::View::place))]
     pub fn put_column(&mut self, k: usize, v: usize)
         requires { v < 2 ^ 63 }
         ensures { self.new ≡ record self.old { scratch = up self.old.n COLUMN self.old.scratch k v } }
     {
-        if k <= self.columns {
-            store(self.fields, 15 * self.columns + k, v);
-        }
+        put_column(self.fields, self.columns, k, v);
     }
 
     /// Row `p` of the pattern; 0 where there is no room for it.
-    #[tactic(auto, using(crate::proofs::Steps::entry_calm), unfolding(crate::specs::View::rd, crate::specs::View::within, crate::specs::View::place, crate::specs::View::at))]
     pub fn entry(&self, p: usize) -> usize
         ensures { (result ≡ rd self.now.n ENTRY self.now.scratch p) × (result < 2 ^ 63) }
     {
-        let from = 16 * self.columns + 16;
-        if p < self.fields.len() - from {
-            fetch(self.fields, from + p)
-        } else {
-            0
-        }
+        entry(self.fields, self.columns, p)
     }
 
     /// Row `p` of the pattern becomes `v`; nothing is done where there is no room for it.
-    #[tactic(auto, using(crate::proofs::Steps::room_entry), unfolding(crate::specs::View::up, crate::specs::View::within, crate::specs::View::place, crate::specs::View::wr))]
     pub fn put_entry(&mut self, p: usize, v: usize)
         requires { v < 2 ^ 63 }
         ensures { self.new ≡ record self.old { scratch = up self.old.n ENTRY self.old.scratch p v } }
     {
-        let from = 16 * self.columns + 16;
-        if p < self.fields.len() - from {
-            store(self.fields, from + p, v);
-        }
+        put_entry(self.fields, self.columns, p, v);
     }
 
     // ---- the signed coding of parent links
 
     /// The parent of object `i`.
-    #[tactic(auto, unfolding(crate::specs::Links::parent, crate::specs::View::place))]
     pub fn parent(&self, i: usize) -> Option<usize>
         ensures named { MatchOption result (parent self.now.n self.now.scratch i ≡ none) (λ p. parent self.now.n self.now.scratch i ≡ some p) }
         ensures small { IfSome result (λ p. p < 2 ^ 63) }
     {
-        if i < self.columns {
-            link_of(signed(self.fields, 8 * i))
-        } else {
-            None
-        }
+        parent(self.fields, self.columns, i)
     }
 
     /// Object `i` gets the parent `p`, or none where `p` is not below `n`.
-    #[tactic(auto, unfolding(crate::specs::Links::hang, crate::specs::View::place))]
     pub fn set_parent(&mut self, i: usize, p: Option<usize>)
         requires { i < self.old.n }
         ensures { self.new ≡ record self.old { scratch = hang self.old.n self.old.scratch i (named self.old.n (unwrap_or p self.old.n)) } }
     {
-        store_signed(self.fields, 8 * i, code_of(self.columns, p));
+        set_parent(self.fields, self.columns, i, p);
     }
 
     /// The same; nothing is done where `i` is not below `n`.
-    #[tactic(auto, unfolding(crate::specs::Links::hang))]
     pub fn put_parent(&mut self, i: usize, p: Option<usize>)
         ensures { self.new ≡ record self.old { scratch = hang self.old.n self.old.scratch i (named self.old.n (unwrap_or p self.old.n)) } }
     {
-        if i < self.columns {
-            self.set_parent(i, p);
-        }
+        put_parent(self.fields, self.columns, i, p);
     }
 }

@@ -5,6 +5,7 @@
 
 ghost use Rattle.std.specs.Prelude.{◌≡◌, ◌+◌, ◌^◌, ◌<◌, length};
 ghost use Rattle.cells.specs.Layout.{NV};
+ghost use Rattle.cells.specs.Rows.{Rows};
 ghost use Rattle.cells.specs.View.{at, rd};
 ghost use Rattle.cells.specs.Space.{SameLists, SameSize};
 ghost use Rattle.packed.specs.Places.{places, due};
@@ -12,8 +13,11 @@ ghost use Rattle.packed.specs.Model.{copied, heap, moved_one, moved_low, moved_n
 ghost use Rattle.packed.specs.Tray.{Tabled, wanted, taking, counted, took_row, took, took_part, absorbed, took_element, took_elements, own_part, took_all};
 ghost use Rattle.packed.specs.Gather.{cleared, collected_rest, made_room, outside, summed, gathered_outside, inside, gathered_inside};
 
-use cells::{Field, Memory, Part, TMP};
+use cells::{Field, Memory, TMP};
 use std::marker::Model;
+
+// A part of the list space.
+pub use cells::Part;
 
 // How far the list space is filled: the end of the lists that go by number, the next free place, and how many elements stand behind in order.
 // No invariant bounds its numbers: `collect`, `collect_rest` and `make_room` are public and ask less than a gather, and a type may not ask their callers more.
@@ -44,9 +48,20 @@ impl Model for Ends {
     ghost inverse = { λ d. record { base = d.base; end = d.end } };
 }
 
-// The numbers of a part, moved to `e` on, first the first.
+// The `len` numbers from `p` on, moved to `e` on, first the first: over the list space alone.
 #[tactic(auto, unfolding(crate::specs::Model::copied, plain::specs::Turns::times))]
-pub fn copy_down(m: &mut Memory, part: Part, e: usize)
+pub fn copy_down(lists: &mut [i64], n: usize, p: usize, e: usize, len: usize)
+    requires { Rows n lists.old × (p < 2 ^ 63) × (e < 2 ^ 63) × (len < 2 ^ 63) }
+    ensures { (lists.new ≡ copied p e len lists.old) × Rows n lists.new }
+{
+    for k in 0..len {
+        cells::copy_row(lists, n, p + k, e + k);
+    }
+}
+
+// The same within a memory: no list space can be taken out of one, since what came back might hold no rows.
+#[tactic(auto, unfolding(crate::specs::Model::copied, plain::specs::Turns::times))]
+fn move_list(m: &mut Memory, part: Part, e: usize)
     requires { (part.from < 2 ^ 63) × (e < 2 ^ 63) × (part.len < 2 ^ 63) }
     ensures copied { m.new ≡ record m.old { lists = copied part.from e part.len m.old.lists } }
     ensures size { length m.new.lists ≡ length m.old.lists }
@@ -78,7 +93,7 @@ pub fn move_one(m: &mut Memory, top: usize, j: usize, end: usize) -> usize
         len: due(m, top, j),
     };
     if 0 < list.len {
-        copy_down(m, list, end);
+        move_list(m, list, end);
         m.up(Field::Pe, j, end);
         cells::plus(end, list.len)
     } else {
@@ -152,7 +167,8 @@ pub fn lay(m: &mut Memory, part: Part)
 {
     let there = m.clip(part);
     for t in 0..there {
-        let x = m.rd(TMP, t);
+        // Without a test, so that the compiler moves several at a time.
+        let x = m.get(TMP, t);
         m.put_row(part.from + t, x);
     }
 }

@@ -1,6 +1,8 @@
 // The pattern that is ordered, in the scratch (preprocess.rs), and A+A' in the list space (aat.rs and the first half of amd_1.rs). What the Rust counts first
 // and writes then is here one pass, done twice: with every cursor at 0 it counts, and from each list's place it writes. What the first one stores is
 // stored over.
+// Both passes, of the cleaning and of the pairs, are compiled in place (`inline(always)`): behind a pointer the parts of a memory would be read anew at each
+// store, which doubles a pass.
 #![tactic(auto)]
 
 ghost use Rattle.std.specs.Prelude.{◌≡◌, ◌+◌, ◌<◌, ◌≤◌, ◌^◌};
@@ -75,7 +77,7 @@ pub fn write_row(m: &mut Memory, j: usize, i: usize)
     prove!(j < m.columns());
     let at = m.rd(SP, i);
     m.put_entry(at, j);
-    m.up(SP, i, cells::plus(at, 1));
+    m.up(SP, i, cells::one_more(at));
     m.up(TP, i, j + 1);
 }
 
@@ -93,6 +95,7 @@ pub fn visit(m: &mut Memory, j: usize, i: usize)
 }
 
 // By index, as in `copy_rows`, and no slice of the rows: a pointer may lie past their end, and the model is total, so that there the number is 0.
+#[inline(always)]
 #[tactic(auto, using(plain::proofs::Turns::turns), unfolding(crate::specs::Model::visited_column))]
 pub fn visit_column(m: &mut Memory, rows: &[i32], j: usize, from: usize, count: usize)
     requires { (j < m.old.n) × (from < 2 ^ 63) × (count < 2 ^ 63) }
@@ -103,6 +106,7 @@ pub fn visit_column(m: &mut Memory, rows: &[i32], j: usize, from: usize, count: 
     }
 }
 
+#[inline(always)]
 #[tactic(auto, unfolding(crate::specs::Model::visited_next))]
 pub fn visit_next(m: &mut Memory, pattern: Columns, j: usize)
     requires { j < m.old.n }
@@ -114,6 +118,7 @@ pub fn visit_next(m: &mut Memory, pattern: Columns, j: usize)
     visit_column(m, pattern.rows, j, from, to.saturating_sub(from));
 }
 
+#[inline(always)]
 #[tactic(auto, using(plain::proofs::Turns::turns), unfolding(crate::specs::Model::visited_all))]
 pub fn visit_all(m: &mut Memory, pattern: Columns)
     ensures { m.new ≡ record m.old { scratch = visited_all m.old.n pattern.entry.pointers.now pattern.entry.rows.now m.old.scratch } }
@@ -185,7 +190,7 @@ pub fn add(m: &mut Memory, i: usize, x: usize)
 {
     let at = m.get(SP, i);
     m.poke_row(at, x);
-    m.set(SP, i, cells::plus(at, 1));
+    m.set(SP, i, cells::one_more(at));
 }
 
 #[tactic(auto, unfolding(crate::specs::Model::paired))]
@@ -213,6 +218,7 @@ pub fn pair_at(m: &mut Memory, j: usize, p: usize)
 
 // A scan goes from a place up to another: two numbers, of which its loop makes the range, and the first of which it hands on.
 // The entries of column `j` from `from` on, before `to`.
+#[inline(always)]
 #[tactic(auto, using(plain::proofs::Turns::times_after), unfolding(crate::specs::Model::paired_part, plain::specs::Turns::times))]
 pub fn pair_part(m: &mut Memory, j: usize, from: usize, to: usize)
     requires { j < m.old.n }
@@ -235,6 +241,7 @@ fn pass_row(i: usize, k: usize, p: usize) -> usize
 
 // The entries of column `j` from `from` on, before `to` and above row `k`. The result is the next place.
 // `meet_above` is this loop with another step: one function for both takes the step, and that step's model and law in its contract are longer than the loop.
+#[inline(always)]
 pub fn pair_above(m: &mut Memory, j: usize, k: usize, from: usize, to: usize) -> usize
     requires { (j < m.old.n) × (k < m.old.n) × (from < 2 ^ 63) × (to < 2 ^ 63) }
     ensures memory { heap m.new.lists m.new.scratch ≡ paired_part m.old.n j from (reach (rd m.old.n 16 m.old.scratch) k from to) (heap m.old.lists m.old.scratch) }
@@ -254,6 +261,7 @@ pub fn pair_above(m: &mut Memory, j: usize, k: usize, from: usize, to: usize) ->
 
 // What waits in column `j` before row `k`: it is in no column above the diagonal. Row `k` itself, if it is next, is the pair that led here.
 #[tactic(auto, unfolding(crate::specs::Model::passed, crate::specs::Model::marked, crate::specs::Model::stop_of, crate::specs::Model::next_of))]
+#[inline(always)]
 pub fn pass(m: &mut Memory, j: usize, k: usize)
     requires { (j < m.old.n) × (k < m.old.n) }
     ensures memory { heap m.new.lists m.new.scratch ≡ passed m.old.n j k (heap m.old.lists m.old.scratch) }
@@ -268,6 +276,7 @@ pub fn pass(m: &mut Memory, j: usize, k: usize)
 
 // Row `j` of column `k`, above the diagonal.
 #[tactic(auto, unfolding(crate::specs::Model::met))]
+#[inline(always)]
 pub fn meet(m: &mut Memory, k: usize, j: usize)
     requires { (k < m.old.n) × (j < m.old.n) }
     ensures memory { heap m.new.lists m.new.scratch ≡ met m.old.n k j (heap m.old.lists m.old.scratch) }
@@ -278,6 +287,7 @@ pub fn meet(m: &mut Memory, k: usize, j: usize)
 }
 
 // The entries of column `k` from `from` on, before `to` and above the diagonal. The result is the next place.
+#[inline(always)]
 pub fn meet_above(m: &mut Memory, k: usize, from: usize, to: usize) -> usize
     requires { (k < m.old.n) × (from < 2 ^ 63) × (to < 2 ^ 63) }
     ensures memory { heap m.new.lists m.new.scratch ≡ met_part m.old.n k from (reach (rd m.old.n 16 m.old.scratch) k from to) (heap m.old.lists m.old.scratch) }
@@ -296,6 +306,7 @@ pub fn meet_above(m: &mut Memory, k: usize, from: usize, to: usize) -> usize
 }
 
 // Column `k`: its entries above the diagonal in turn, and what is below waits.
+#[inline(always)]
 #[tactic(auto, unfolding(crate::specs::Model::met_column, crate::specs::Model::marked, crate::specs::Model::stop_of, crate::specs::Model::next_of))]
 pub fn meet_column(m: &mut Memory, k: usize)
     requires { k < m.old.n }
@@ -309,6 +320,7 @@ pub fn meet_column(m: &mut Memory, k: usize)
     m.set(TP, k, next);
 }
 
+#[inline(always)]
 #[tactic(auto, using(plain::proofs::Turns::turns), unfolding(crate::specs::Model::met_columns))]
 pub fn meet_columns(m: &mut Memory)
     ensures memory { heap m.new.lists m.new.scratch ≡ met_columns m.old.n (heap m.old.lists m.old.scratch) }
@@ -320,6 +332,7 @@ pub fn meet_columns(m: &mut Memory)
 }
 
 // What is left of column `j` has no mate above the diagonal.
+#[inline(always)]
 #[tactic(auto, unfolding(crate::specs::Model::met_rest))]
 pub fn meet_rest(m: &mut Memory, j: usize)
     requires { j < m.old.n }
@@ -332,6 +345,7 @@ pub fn meet_rest(m: &mut Memory, j: usize)
     pair_part(m, j, from, to);
 }
 
+#[inline(always)]
 #[tactic(auto, using(plain::proofs::Turns::turns), unfolding(crate::specs::Model::met_rests))]
 pub fn meet_rests(m: &mut Memory)
     ensures memory { heap m.new.lists m.new.scratch ≡ met_rests m.old.n (heap m.old.lists m.old.scratch) }
@@ -342,6 +356,7 @@ pub fn meet_rests(m: &mut Memory)
     }
 }
 
+#[inline(always)]
 #[tactic(auto, unfolding(crate::specs::Model::scanned))]
 pub fn scan(m: &mut Memory)
     ensures memory { heap m.new.lists m.new.scratch ≡ scanned m.old.n (heap m.old.lists m.old.scratch) }

@@ -1,37 +1,33 @@
 // The ordering for a host in Rust or C, as the tools that compare and time it call it: numbers and lent slices, the statistics in cells.
 #![tactic(auto)]
 
-ghost use Rattle.std.specs.Prelude.{◌≡◌};
+ghost use Rattle.std.specs.Prelude.{◌≡◌, set};
 ghost use Rattle.definition.specs.Promise.{after};
 ghost use Rattle.numbers.specs.Meaning.{statistics_meant};
 ghost use Rattle.probe.specs.Told.{seven_of, written, told, lent_by, seen};
 
 use numbers::{Settings, Statistics};
 
-// The seven statistics, in the order of the cells: its promise is `seven_of` of this crate's specs/, so it stands here and not at `numbers::Statistics`.
-#[tactic(auto, unfolding(crate::specs::Told::seven_of, numbers::specs::Meaning::statistics_meant))]
-fn seven(x: Statistics) -> [u64; 7]
-    ensures { result ≡ seven_of (statistics_meant x) }
+// Cell `i` becomes `x`; nothing is done where there is no such cell.
+fn put(cells: &mut [u64], i: usize, x: u64)
+    ensures { cells.new ≡ set cells.old i x }
 {
-    [
-        x.lnz,
-        x.n_div,
-        x.n_mult_subs_ldl,
-        x.n_mult_subs_lu,
-        x.n_dense,
-        x.d_max,
-        x.n_cmp_a,
-    ]
+    if i < cells.len() {
+        cells[i] = x;
+    }
 }
 
-// The seven statistics, as many as fit; the cells behind them stay as they are.
-#[tactic(auto, unfolding(crate::specs::Told::written))]
+// The seven statistics, as many as fit; the cells behind them stay as they are. One by one: for a copy of so many, an archive for C needs `memcpy` from its host.
 fn put_statistics(cells: &mut [u64], x: Statistics)
     ensures { cells.new ≡ written (seven_of (statistics_meant x)) cells.old }
 {
-    let numbers = seven(x);
-    let count = cells.len().min(numbers.len());
-    cells[..count].copy_from_slice(&numbers[..count]);
+    put(cells, 0, x.lnz);
+    put(cells, 1, x.n_div);
+    put(cells, 2, x.n_mult_subs_ldl);
+    put(cells, 3, x.n_mult_subs_lu);
+    put(cells, 4, x.n_dense);
+    put(cells, 5, x.d_max);
+    put(cells, 6, x.n_cmp_a);
 }
 
 // The ordering of the pattern of `n` columns, or the answer for which it is refused: the answer's number, for all inputs.

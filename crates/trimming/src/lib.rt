@@ -3,6 +3,7 @@
 #![tactic(auto)]
 
 ghost use Rattle.std.specs.Prelude.{◌≡◌, ◌+◌, ◌^◌, ◌<◌, ◌≤◌, ◌&&◌, length, ◌==◌};
+ghost use Rattle.cells.specs.Rows.{Rows};
 ghost use Rattle.cells.specs.Space.{SameSize};
 ghost use Rattle.cells.specs.View.{wr};
 ghost use Rattle.trimming.specs.Model.{Grown, counted, keeping, kept_live, kept_element, kept_elements, kept_variable, kept_variables, kept_all, took_weight, buried, massed, turned, sized, lowered, key_of, keyed, relisted, settled, trimming, updated, updated_at, updated_all};
@@ -45,8 +46,17 @@ pub fn count(x: usize, size: usize, k: Kept) -> Kept
     }
 }
 
-// Row `x` goes to the cell behind what is kept, and is counted.
-pub fn keep_entry(m: &mut Memory, x: usize, size: usize, k: Kept) -> Kept
+// Row `x` goes to the cell behind what is kept, and is counted: over the list space alone.
+pub fn keep_entry(lists: &mut [i64], n: usize, x: usize, size: usize, k: Kept) -> Kept
+    requires { Rows n lists.old × (x < n) × (x < 2 ^ 63) × (k.end < length lists.old) }
+    ensures { (lists.new ≡ wr lists.old k.end x) × Rows n lists.new × (result ≡ counted x size k) × Grown k result }
+{
+    cells::put_row(lists, n, k.end, x);
+    count(x, size, k)
+}
+
+// The same within a memory.
+fn keep_row(m: &mut Memory, x: usize, size: usize, k: Kept) -> Kept
     requires { (x < m.old.n) × (k.end < length m.old.lists) }
     ensures put { m.new ≡ record m.old { lists = wr m.old.lists k.end x } }
     ensures size { length m.new.lists ≡ length m.old.lists }
@@ -76,12 +86,12 @@ pub fn keep_live(m: &mut Memory, r: Rule, e: usize, w: usize, k: Kept) -> Kept
     ensures grown { Grown k result }
 {
     if r.flag < w {
-        keep_entry(m, e, w - r.flag, k)
+        keep_row(m, e, w - r.flag, k)
     } else if r.swallows(w) {
         packed::absorb(m, r.me, e);
         k
     } else {
-        keep_entry(m, e, 0, k)
+        keep_row(m, e, 0, k)
     }
 }
 
@@ -132,7 +142,7 @@ pub fn keep_variable(m: &mut Memory, q: usize, k: Kept) -> Kept
 {
     let v = m.row(q);
     let w = m.get(Field::Want, v);
-    if 0 < w { keep_entry(m, v, w, k) } else { k }
+    if 0 < w { keep_row(m, v, w, k) } else { k }
 }
 
 // The variables in a part of the lists: those that are kept move to behind what is kept of the elements.
@@ -212,9 +222,22 @@ pub fn mass_eliminate(m: &mut Memory, me: usize, i: usize, t: Merged) -> Merged
 
 // ---- the list of a row that stays
 
-// Of the numbers from `p` to `end` the first goes to place `elements`, the one there to the end, and `me` to the front.
+// Of the numbers from `p` to `end` the first goes to place `elements`, the one there to the end, and `me` to the front: over the list space alone.
 #[tactic(auto, unfolding(crate::specs::Model::turned))]
-pub fn turn_list(m: &mut Memory, me: usize, p: usize, elements: usize, end: usize)
+pub fn turn_list(lists: &mut [i64], n: usize, me: usize, p: usize, elements: usize, end: usize)
+    requires { Rows n lists.old × (me < n) × (me < 2 ^ 63) × (p ≤ elements) × (elements ≤ end) × (end < length lists.old) }
+    ensures { (lists.new ≡ turned me p elements end lists.old) × Rows n lists.new }
+{
+    let last = cells::row(lists, n, elements);
+    cells::put_row(lists, n, end, last);
+    let first = cells::row(lists, n, p);
+    cells::put_row(lists, n, elements, first);
+    cells::put_row(lists, n, p, me);
+}
+
+// The same within a memory.
+#[tactic(auto, unfolding(crate::specs::Model::turned))]
+fn turn_part(m: &mut Memory, me: usize, p: usize, elements: usize, end: usize)
     requires { (me < m.old.n) × (p ≤ elements) × (elements ≤ end) × (end < length m.old.lists) }
     ensures turned { m.new ≡ record m.old { lists = turned me p elements end m.old.lists } }
     ensures size { length m.new.lists ≡ length m.old.lists }
@@ -278,7 +301,7 @@ pub fn relist(m: &mut Memory, me: usize, i: usize, p: usize, k: Kept)
     ensures size { length m.new.lists ≡ length m.old.lists }
 {
     prove!(k.end < m.size());
-    turn_list(m, me, p, k.elements, k.end);
+    turn_part(m, me, p, k.elements, k.end);
     finish_list(m, i, k.elements - p, k.end - p);
     lower_degree(m, i, k.deg);
     let key = key_of(m.columns(), k.sum);
