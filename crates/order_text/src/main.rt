@@ -3,7 +3,7 @@
 // permutation, empty on a refusal; the seven statistics.
 #![tactic(auto)]
 
-ghost use Rattle.std.specs.Prelude.{◌≡◌, ◌≤◌, length};
+ghost use Rattle.std.specs.Prelude.{◌≤◌};
 ghost use Rattle.order_text.specs.declared.TheConstants.{MOST_COLUMNS, MOST_ROWS};
 
 use numbers::Settings;
@@ -31,37 +31,6 @@ const MOST_NUMBERS: usize = MOST_COLUMNS + 2 + MOST_ROWS;
 
 // A text that fills so many bytes is too long.
 const TEXT_ROOM: usize = 65536;
-
-// The arrays, with their sizes as numbers: a constant alone is held by nothing.
-fn text_bytes() -> [u8; TEXT_ROOM]
-    ensures { 65536 ≡ length result }
-{
-    [0; TEXT_ROOM]
-}
-
-fn number_cells() -> [i32; MOST_NUMBERS]
-    ensures { 1154 ≡ length result }
-{
-    [0; MOST_NUMBERS]
-}
-
-fn output_cells() -> [i32; MOST_COLUMNS]
-    ensures { 128 ≡ length result }
-{
-    [0; MOST_COLUMNS]
-}
-
-fn list_cells() -> [i64; MOST_LISTS]
-    ensures { 2176 ≡ length result }
-{
-    [0; MOST_LISTS]
-}
-
-fn scratch_cells() -> [i64; MOST_SCRATCH]
-    ensures { 3088 ≡ length result }
-{
-    [0; MOST_SCRATCH]
-}
 
 // Why a text is no pattern that the program takes.
 #[derive(Clone, Copy, PartialEq, Eq, Debug)]
@@ -172,10 +141,15 @@ impl<'a> Input<'a> {
 }
 
 fn order_input<W: Write>(out: &mut W, input: &Input<'_>) -> io::Result<()> {
-    let mut permutation = output_cells();
-    let mut inverse = output_cells();
-    let mut lists = list_cells();
-    let mut scratch = scratch_cells();
+    let mut permutation = [0; MOST_COLUMNS];
+    let mut inverse = [0; MOST_COLUMNS];
+    let mut lists = [0; MOST_LISTS];
+    let mut scratch = [0; MOST_SCRATCH];
+    // The sizes as numbers, here and in `main`: a constant alone is held by nothing.
+    prove!(permutation.len() == 128);
+    prove!(inverse.len() == 128);
+    prove!(lists.len() == 2176);
+    prove!(scratch.len() == 3088);
     let outcome = ordering::order(
         input.n,
         input.pointers,
@@ -196,9 +170,11 @@ fn order_input<W: Write>(out: &mut W, input: &Input<'_>) -> io::Result<()> {
 
 fn main(rt: HostRuntime) -> io::Result<()> {
     let mut out = rt.stdout();
-    let mut bytes = text_bytes();
+    let mut bytes = [0; TEXT_ROOM];
+    prove!(bytes.len() == 65536);
     let size = text::read_full(&mut rt.stdin(), &mut bytes)?;
-    let mut numbers = number_cells();
+    let mut numbers = [0; MOST_NUMBERS];
+    prove!(numbers.len() == 1154);
     match Input::of_text(&bytes[..size], &mut numbers) {
         Ok(input) => order_input(&mut out, &input),
         Err(refusal) => writeln!(out, "{refusal}"),

@@ -6,7 +6,7 @@
 // pointers and that of rows; then these. The slices that are lent start full of FILL.
 #![tactic(auto)]
 
-ghost use Rattle.std.specs.Prelude.{◌≡◌, ◌≤◌, ◌<◌, length, IfSome};
+ghost use Rattle.std.specs.Prelude.{◌≤◌, ◌<◌, length, IfSome};
 ghost use Rattle.replay.specs.Fitting.{Fitting};
 
 use numbers::Settings;
@@ -31,37 +31,6 @@ const MOST_BYTES: usize = 131072;
 
 // The numbers that stand before a case's pointers.
 const HEAD: usize = 10;
-
-// The arrays, with their sizes as numbers: a constant alone is held by nothing.
-fn case_bytes() -> [u8; MOST_BYTES]
-    ensures { 131072 ≡ length result }
-{
-    [0; MOST_BYTES]
-}
-
-fn number_cells() -> [i32; MOST_NUMBERS]
-    ensures { 49152 ≡ length result }
-{
-    [0; MOST_NUMBERS]
-}
-
-fn output_cells() -> [i32; MOST_OUTPUT]
-    ensures { 160 ≡ length result }
-{
-    [FILL; MOST_OUTPUT]
-}
-
-fn list_cells() -> [i64; MOST_LISTS]
-    ensures { 2048 ≡ length result }
-{
-    [WIDE_FILL; MOST_LISTS]
-}
-
-fn scratch_cells() -> [i64; MOST_SCRATCH]
-    ensures { 4096 ≡ length result }
-{
-    [WIDE_FILL; MOST_SCRATCH]
-}
 
 #[derive(Clone, Copy)]
 struct Lengths {
@@ -142,10 +111,15 @@ fn split_first_case(xs: &[i32]) -> Option<(Case<'_>, &[i32])>
 fn replay_case<W: Write>(out: &mut W, case: &Case<'_>) -> io::Result<()>
     requires { Fitting case.now.lengths }
 {
-    let mut permutation = output_cells();
-    let mut inverse = output_cells();
-    let mut lists = list_cells();
-    let mut scratch = scratch_cells();
+    let mut permutation = [FILL; MOST_OUTPUT];
+    let mut inverse = [FILL; MOST_OUTPUT];
+    let mut lists = [WIDE_FILL; MOST_LISTS];
+    let mut scratch = [WIDE_FILL; MOST_SCRATCH];
+    // The sizes as numbers, here and in `main`: a constant alone is held by nothing.
+    prove!(permutation.len() == 160);
+    prove!(inverse.len() == 160);
+    prove!(lists.len() == 2048);
+    prove!(scratch.len() == 4096);
     let permutation = &mut permutation[..case.lengths.permutation];
     let inverse = &mut inverse[..case.lengths.inverse];
     let lists = &mut lists[..case.lengths.lists];
@@ -184,9 +158,11 @@ fn replay_all<W: Write>(out: &mut W, xs: &[i32]) -> io::Result<()> {
 
 fn main(rt: HostRuntime) -> io::Result<()> {
     let mut out = rt.stdout();
-    let mut bytes = case_bytes();
+    let mut bytes = [0; MOST_BYTES];
+    prove!(bytes.len() == 131072);
     let size = text::read_full(&mut rt.stdin(), &mut bytes)?;
-    let mut numbers = number_cells();
+    let mut numbers = [0; MOST_NUMBERS];
+    prove!(numbers.len() == 49152);
     match text::read_numbers(&bytes[..size], &mut numbers) {
         Ok(count) => replay_all(&mut out, &numbers[..count]),
         Err(_) => writeln!(out, "the cases are not numbers, or too many"),
