@@ -17,7 +17,8 @@ fn put(cells: &mut [u64], i: usize, x: u64)
     }
 }
 
-// The seven statistics, as many as fit; the cells behind them stay as they are. One by one: for a copy of so many, an archive for C needs `memcpy` from its host.
+// The seven statistics, as many as fit; the cells behind them stay as they are. One by one: for a copy of so many, an archive for C needs `memcpy` from its
+// host.
 fn put_statistics(cells: &mut [u64], x: Statistics)
     ensures { cells.new ≡ written (seven_of (statistics_meant x)) cells.old }
 {
