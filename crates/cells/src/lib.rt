@@ -9,11 +9,13 @@ ghost use Rattle.cells.specs.View.{nat, at, wr, plus, negative};
 
 pub use field::{Field, LARGEST, SIBLING, SP, STACK, TMP, TP};
 pub use memory::{
-    Memory, column, entry, get, parent, put_column, put_entry, put_parent, rd, set, set_parent, up,
+    column, entry, get, parent, put_column, put_entry, put_parent, rd, set, set_parent, up,
 };
+pub use workspaces::Memory;
 
 mod field;
 mod memory;
+mod workspaces;
 
 // A part of the list space.
 #[derive(Clone, Copy)]

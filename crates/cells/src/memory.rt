@@ -7,11 +7,11 @@ ghost use Rattle.cells.specs.View.{Room, at, wr, rd, up, negative, place};
 ghost use Rattle.cells.specs.Rows.{Rows, clipped};
 ghost use Rattle.cells.specs.Links.{flipped, coded, decoded, named, parent, hang};
 ghost use Rattle.cells.specs.Field.{field_number};
-ghost use Rattle.cells.specs.Space.{Fits};
+ghost use Rattle.cells.specs.Space.{space, Fits};
 
 use crate::field::Field;
+use crate::workspaces::Memory;
 use crate::{Part, clear, clip, copy_row, natural, poke_row, put_row, row};
-use std::marker::Model;
 
 // ---- a cell of a slice
 
@@ -264,34 +264,13 @@ pub fn put_parent(s: &mut [i64], n: usize, i: usize, p: Option<usize>)
     }
 }
 
-/// The two workspaces of an ordering of `n` columns, as they are lent: fixed memory is a rule of the project, so the scratch is an arena of fields. Clauses see
-/// the number of columns and both as lists. Every cell of the list space holds a row, and of the fields of the scratch the place of a list alone may be below
-/// 0, where it is a parent. What ties a number to the memory (a row below n, a cell below the size) stays a clause: the number does not hold the memory.
-#[derive(Drop)]
-pub struct Memory<'a> {
-    columns: usize,
-    rows: &'a mut [i64],
-    fields: &'a mut [i64],
-}
-
-impl<'a> Model for Memory<'a> {
-    ghost use Rattle.cells.specs.Space.{Space, space_code, Fits};
-
-    ghost Value = { Space };
-
-    ghost coded = { space_code };
-
-    ghost view = { λ m. record { n = m.columns; lists = m.rows.now; scratch = m.fields.now } };
-
-    ghost invariant = { λ m. Fits (record { n = m.columns; lists = m.rows.now; scratch = m.fields.now }) };
-}
-
-impl<'a> Memory<'a> {
+impl<'a, 'b> Memory<'a, 'b> {
     /// Over both workspaces as they are: whatever functions on slices took, a memory can hold.
-    pub fn over(columns: usize, lists: &'a mut [i64], scratch: &'a mut [i64]) -> Self
+    #[tactic(auto, unfolding(crate::specs::Space::space))]
+    pub fn over(columns: usize, lists: &'a mut [i64], scratch: &'b mut [i64]) -> Self
         requires room { Room columns scratch.old }
         requires rows { Rows columns lists.old }
-        ensures { result ≡ record { n = columns; lists = lists.old; scratch = scratch.old } }
+        ensures { space result ≡ record { n = columns; lists = lists.old; scratch = scratch.old; names = (lists.entry.ghost_name, scratch.entry.ghost_name) } }
     {
         Memory {
             columns,
@@ -301,12 +280,17 @@ impl<'a> Memory<'a> {
     }
 
     /// Over both workspaces, cleared, whatever they were lent with.
-    #[tactic(auto, using(crate::proofs::Fields::room_cleared, crate::proofs::Rows::rows_cleared))]
-    pub fn new(columns: usize, lists: &'a mut [i64], scratch: &'a mut [i64]) -> Self
+    #[tactic(auto, using(crate::proofs::Fields::room_cleared, crate::proofs::Rows::rows_cleared), unfolding(crate::specs::Space::space))]
+    pub fn new(columns: usize, lists: &'a mut [i64], scratch: &'b mut [i64]) -> Self
         requires some { 0 < columns }
         requires room { 16 * columns + 16 ≤ length scratch.old }
-        ensures cleared { result ≡ record { n = columns; lists = replicate (length lists.old) (pos 0); scratch = replicate (length scratch.old) (pos 0) } }
-        ensures fits { Fits result }
+        ensures cleared { space result ≡ record {
+          n = columns;
+          lists = replicate (length lists.old) (pos 0);
+          scratch = replicate (length scratch.old) (pos 0);
+          names = (lists.entry.ghost_name, scratch.entry.ghost_name);
+        } }
+        ensures fits { Fits (space result) }
     {
         clear(lists);
         clear(scratch);
@@ -314,10 +298,11 @@ impl<'a> Memory<'a> {
     }
 
     /// Both workspaces, given back: what they hold is known behind these.
-    pub fn into_parts(self) -> (&'a mut [i64], &'a mut [i64])
-        ensures lists { result.0.now ≡ self.entry.lists }
-        ensures scratch { result.1.now ≡ self.entry.scratch }
-        ensures fits { Fits self.entry }
+    #[tactic(auto, unfolding(crate::specs::Space::space))]
+    pub fn into_parts(self) -> (&'a mut [i64], &'b mut [i64])
+        ensures lists { result.0.now ≡ (space self.entry).lists }
+        ensures scratch { result.1.now ≡ (space self.entry).scratch }
+        ensures fits { Fits (space self.entry) }
     {
         let Memory {
             columns: _,
@@ -328,10 +313,11 @@ impl<'a> Memory<'a> {
     }
 
     /// The number of columns, with what is true of every memory.
+    #[tactic(auto, unfolding(crate::specs::Space::space))]
     pub fn columns(&self) -> usize
-        ensures value { result ≡ self.now.n }
+        ensures value { result ≡ (space self.now).n }
         ensures small { result < 2 ^ 56 }
-        ensures fits { Fits self.now }
+        ensures fits { Fits (space self.now) }
     {
         self.columns
     }
@@ -339,52 +325,58 @@ impl<'a> Memory<'a> {
     // ---- rows in the list space
 
     /// How many cells the list space has.
+    #[tactic(auto, unfolding(crate::specs::Space::space))]
     pub fn size(&self) -> usize
-        ensures { (result ≡ length self.now.lists) × (result < 2 ^ 60) }
+        ensures { (result ≡ length (space self.now).lists) × (result < 2 ^ 60) }
     {
         self.rows.len()
     }
 
     /// How many cells of a part are there: a loop over them asks once, and counts, since rows are read while fields are stored.
+    #[tactic(auto, unfolding(crate::specs::Space::space))]
     pub fn clip(&self, part: Part) -> usize
-        ensures clipped { result ≡ clipped (length self.now.lists) part.from part.len }
-        ensures within { (result ≤ part.len) × (result ≤ length self.now.lists - part.from) }
-        ensures bound { length self.now.lists < 2 ^ 60 }
+        ensures clipped { result ≡ clipped (length (space self.now).lists) part.from part.len }
+        ensures within { (result ≤ part.len) × (result ≤ length (space self.now).lists - part.from) }
+        ensures bound { length (space self.now).lists < 2 ^ 60 }
     {
         clip(self.rows.len(), part)
     }
 
     /// The row in cell `q`.
+    #[tactic(auto, unfolding(crate::specs::Space::space))]
     pub fn row(&self, q: usize) -> usize
-        requires { q < length self.now.lists }
-        ensures read { (result ≡ at self.now.lists q) × (result < self.now.n) × (result < 2 ^ 63) }
-        ensures bound { self.now.n < 2 ^ 56 }
+        requires { q < length (space self.now).lists }
+        ensures read { (result ≡ at (space self.now).lists q) × (result < (space self.now).n) × (result < 2 ^ 63) }
+        ensures bound { (space self.now).n < 2 ^ 56 }
     {
         row(self.rows, self.columns, q)
     }
 
     /// Cell `q` becomes row `v`.
+    #[tactic(auto, unfolding(crate::specs::Space::space))]
     pub fn put_row(&mut self, q: usize, v: usize)
-        requires { (q < length self.old.lists) × (v < self.old.n) }
-        ensures put { self.new ≡ record self.old { lists = wr self.old.lists q v } }
-        ensures size { length self.new.lists ≡ length self.old.lists }
+        requires { (q < length (space self.old).lists) × (v < (space self.old).n) }
+        ensures put { space self.new ≡ record (space self.old) { lists = wr (space self.old).lists q v } }
+        ensures size { length (space self.new).lists ≡ length (space self.old).lists }
     {
         put_row(self.rows, self.columns, q, v);
     }
 
     /// The same; nothing is done where there is no such cell.
+    #[tactic(auto, unfolding(crate::specs::Space::space))]
     pub fn poke_row(&mut self, q: usize, v: usize)
-        requires { v < self.old.n }
-        ensures put { self.new ≡ record self.old { lists = wr self.old.lists q v } }
-        ensures size { length self.new.lists ≡ length self.old.lists }
+        requires { v < (space self.old).n }
+        ensures put { space self.new ≡ record (space self.old) { lists = wr (space self.old).lists q v } }
+        ensures size { length (space self.new).lists ≡ length (space self.old).lists }
     {
         poke_row(self.rows, self.columns, q, v);
     }
 
     /// Cell `e` becomes what cell `p` is.
+    #[tactic(auto, unfolding(crate::specs::Space::space))]
     pub fn copy_row(&mut self, p: usize, e: usize)
-        ensures put { self.new ≡ record self.old { lists = wr self.old.lists e (at self.old.lists p) } }
-        ensures size { length self.new.lists ≡ length self.old.lists }
+        ensures put { space self.new ≡ record (space self.old) { lists = wr (space self.old).lists e (at (space self.old).lists p) } }
+        ensures size { length (space self.new).lists ≡ length (space self.old).lists }
     {
         copy_row(self.rows, self.columns, p, e);
     }
@@ -392,43 +384,49 @@ impl<'a> Memory<'a> {
     // ---- a field of the scratch
 
     /// The field of node `i`.
+    #[tactic(auto, unfolding(crate::specs::Space::space))]
     pub fn get(&self, field: Field, i: usize) -> usize
-        requires { i < self.now.n }
-        ensures read { (result ≡ rd self.now.n (field_number field) self.now.scratch i) × (result < 2 ^ 63) }
-        ensures bound { self.now.n < 2 ^ 56 }
+        requires { i < (space self.now).n }
+        ensures read { (result ≡ rd (space self.now).n (field_number field) (space self.now).scratch i) × (result < 2 ^ 63) }
+        ensures bound { (space self.now).n < 2 ^ 56 }
     {
         get(self.fields, self.columns, field, i)
     }
 
     /// The field of node `i` becomes `v`.
+    #[tactic(auto, unfolding(crate::specs::Space::space))]
     pub fn set(&mut self, field: Field, i: usize, v: usize)
-        requires { (i < self.old.n) × (v < 2 ^ 63) }
-        ensures { self.new ≡ record self.old { scratch = up self.old.n (field_number field) self.old.scratch i v } }
+        requires { (i < (space self.old).n) × (v < 2 ^ 63) }
+        ensures { space self.new ≡ record (space self.old) { scratch = up (space self.old).n (field_number field) (space self.old).scratch i v } }
     {
         set(self.fields, self.columns, field, i, v);
     }
 
     /// The field of node `i`; 0 where `i` is not below `n`.
+    #[tactic(auto, unfolding(crate::specs::Space::space))]
     pub fn rd(&self, field: Field, i: usize) -> usize
-        ensures read { (result ≡ rd self.now.n (field_number field) self.now.scratch i) × (result < 2 ^ 63) }
-        ensures bound { self.now.n < 2 ^ 56 }
+        ensures read { (result ≡ rd (space self.now).n (field_number field) (space self.now).scratch i) × (result < 2 ^ 63) }
+        ensures bound { (space self.now).n < 2 ^ 56 }
     {
         rd(self.fields, self.columns, field, i)
     }
 
     /// The field of node `i` becomes `v`; nothing is done where `i` is not below `n`.
+    #[tactic(auto, unfolding(crate::specs::Space::space))]
     pub fn up(&mut self, field: Field, i: usize, v: usize)
         requires { v < 2 ^ 63 }
-        ensures { self.new ≡ record self.old { scratch = up self.old.n (field_number field) self.old.scratch i v } }
+        ensures { space self.new ≡ record (space self.old) { scratch = up (space self.old).n (field_number field) (space self.old).scratch i v } }
     {
         up(self.fields, self.columns, field, i, v);
     }
 
     /// The field of every node becomes `v`.
-    #[tactic(auto, using(plain::proofs::Turns::turns))]
+    #[tactic(auto, using(plain::proofs::Turns::turns), unfolding(crate::specs::Space::space))]
     pub fn fill(&mut self, field: Field, v: usize)
         requires { v < 2 ^ 63 }
-        ensures { self.new ≡ record self.old { scratch = times self.old.n (λ i s. up self.old.n (field_number field) s i v) self.old.scratch } }
+        ensures { space self.new ≡ record (space self.old) {
+          scratch = times (space self.old).n (λ i s. up (space self.old).n (field_number field) s i v) (space self.old).scratch;
+        } }
     {
         for node in 0..self.columns {
             self.set(field, node, v);
@@ -438,31 +436,35 @@ impl<'a> Memory<'a> {
     // ---- the cleaned pattern
 
     /// The pointer of column `k`; 0 where `k` is above `n`.
+    #[tactic(auto, unfolding(crate::specs::Space::space))]
     pub fn column(&self, k: usize) -> usize
-        ensures { (result ≡ rd self.now.n COLUMN self.now.scratch k) × (result < 2 ^ 63) }
+        ensures { (result ≡ rd (space self.now).n COLUMN (space self.now).scratch k) × (result < 2 ^ 63) }
     {
         column(self.fields, self.columns, k)
     }
 
     /// The pointer of column `k` becomes `v`; nothing is done where `k` is above `n`.
+    #[tactic(auto, unfolding(crate::specs::Space::space))]
     pub fn put_column(&mut self, k: usize, v: usize)
         requires { v < 2 ^ 63 }
-        ensures { self.new ≡ record self.old { scratch = up self.old.n COLUMN self.old.scratch k v } }
+        ensures { space self.new ≡ record (space self.old) { scratch = up (space self.old).n COLUMN (space self.old).scratch k v } }
     {
         put_column(self.fields, self.columns, k, v);
     }
 
     /// Row `p` of the pattern; 0 where there is no room for it.
+    #[tactic(auto, unfolding(crate::specs::Space::space))]
     pub fn entry(&self, p: usize) -> usize
-        ensures { (result ≡ rd self.now.n ENTRY self.now.scratch p) × (result < 2 ^ 63) }
+        ensures { (result ≡ rd (space self.now).n ENTRY (space self.now).scratch p) × (result < 2 ^ 63) }
     {
         entry(self.fields, self.columns, p)
     }
 
     /// Row `p` of the pattern becomes `v`; nothing is done where there is no room for it.
+    #[tactic(auto, unfolding(crate::specs::Space::space))]
     pub fn put_entry(&mut self, p: usize, v: usize)
         requires { v < 2 ^ 63 }
-        ensures { self.new ≡ record self.old { scratch = up self.old.n ENTRY self.old.scratch p v } }
+        ensures { space self.new ≡ record (space self.old) { scratch = up (space self.old).n ENTRY (space self.old).scratch p v } }
     {
         put_entry(self.fields, self.columns, p, v);
     }
@@ -470,24 +472,32 @@ impl<'a> Memory<'a> {
     // ---- the signed coding of parent links
 
     /// The parent of object `i`.
+    #[tactic(auto, unfolding(crate::specs::Space::space))]
     pub fn parent(&self, i: usize) -> Option<usize>
-        ensures named { MatchOption result (parent self.now.n self.now.scratch i ≡ none) (λ p. parent self.now.n self.now.scratch i ≡ some p) }
+        ensures named { MatchOption result
+            (parent (space self.now).n (space self.now).scratch i ≡ none) (λ p. parent (space self.now).n (space self.now).scratch i ≡ some p) }
         ensures small { IfSome result (λ p. p < 2 ^ 63) }
     {
         parent(self.fields, self.columns, i)
     }
 
     /// Object `i` gets the parent `p`, or none where `p` is not below `n`.
+    #[tactic(auto, unfolding(crate::specs::Space::space))]
     pub fn set_parent(&mut self, i: usize, p: Option<usize>)
-        requires { i < self.old.n }
-        ensures { self.new ≡ record self.old { scratch = hang self.old.n self.old.scratch i (named self.old.n (unwrap_or p self.old.n)) } }
+        requires { i < (space self.old).n }
+        ensures { space self.new ≡ record (space self.old) {
+          scratch = hang (space self.old).n (space self.old).scratch i (named (space self.old).n (unwrap_or p (space self.old).n));
+        } }
     {
         set_parent(self.fields, self.columns, i, p);
     }
 
     /// The same; nothing is done where `i` is not below `n`.
+    #[tactic(auto, unfolding(crate::specs::Space::space))]
     pub fn put_parent(&mut self, i: usize, p: Option<usize>)
-        ensures { self.new ≡ record self.old { scratch = hang self.old.n self.old.scratch i (named self.old.n (unwrap_or p self.old.n)) } }
+        ensures { space self.new ≡ record (space self.old) {
+          scratch = hang (space self.old).n (space self.old).scratch i (named (space self.old).n (unwrap_or p (space self.old).n));
+        } }
     {
         put_parent(self.fields, self.columns, i, p);
     }

@@ -4,6 +4,8 @@
 #![tactic(auto)]
 
 ghost use Rattle.std.specs.Prelude.{◌≡◌, ◌<◌, ◌^◌, max, IfSome, IfNone};
+ghost use Rattle.cells.specs.Space.{space};
+ghost use Rattle.cells.specs.View.{Room};
 ghost use Rattle.chain.specs.Model.{relinked, removed, headed, pushed, emptied, enlisted_one, enlisted_all};
 ghost use Rattle.chain.specs.First.{First};
 
@@ -18,35 +20,35 @@ pub struct Pivot {
 
 // What stood before row `i`, or the head of its list where nothing did, goes on at `after`.
 #[tactic(auto, unfolding(crate::specs::Model::relinked))]
-fn relink(m: &mut Memory, i: usize, before: usize, after: usize)
-    requires { (i < m.old.n) × (after < 2 ^ 63) }
-    ensures { m.new ≡ record m.old { scratch = relinked m.old.n m.old.scratch i before after } }
+fn relink(s: &mut [i64], n: usize, i: usize, before: usize, after: usize)
+    requires { Room n s.old × (i < n) × (after < 2 ^ 63) }
+    ensures { (s.new ≡ relinked n s.old i before after) × Room n s.new }
 {
-    if before < m.columns() {
-        m.set(Field::Next, before, after);
+    if before < n {
+        cells::set(s, n, Field::Next, before, after);
     } else {
-        let d = m.get(Field::Degree, i);
-        m.up(Field::Head, d, after);
+        let d = cells::get(s, n, Field::Degree, i);
+        cells::up(s, n, Field::Head, d, after);
     }
 }
 
-// Takes row `i` out of the list that it stands in, wherever it stands there.
+// Takes row `i` out of the list that it stands in, wherever it stands there: over the scratch alone, since a gather shares the list space.
 #[tactic(auto, unfolding(crate::specs::Model::removed))]
-pub fn take_out(m: &mut Memory, i: usize)
-    requires { i < m.old.n }
-    ensures { m.new ≡ record m.old { scratch = removed m.old.n m.old.scratch i } }
+pub fn take_out(s: &mut [i64], n: usize, i: usize)
+    requires { Room n s.old × (i < n) }
+    ensures { (s.new ≡ removed n s.old i) × Room n s.new }
 {
-    let before = m.get(Field::Last, i);
-    let after = m.get(Field::Next, i);
-    m.up(Field::Last, after, before);
-    relink(m, i, before, after);
+    let before = cells::get(s, n, Field::Last, i);
+    let after = cells::get(s, n, Field::Next, i);
+    cells::up(s, n, Field::Last, after, before);
+    relink(s, n, i, before, after);
 }
 
 // Row `i` becomes the front of the list of degree `d`, which becomes its degree, before the row `front`.
 #[tactic(auto, unfolding(crate::specs::Model::headed))]
 fn head_list(m: &mut Memory, d: usize, front: usize, i: usize)
-    requires { (d < m.old.n) × (front < 2 ^ 63) × (i < m.old.n) }
-    ensures { m.new ≡ record m.old { scratch = headed m.old.n m.old.scratch d front i } }
+    requires { (d < (space m.old).n) × (front < 2 ^ 63) × (i < (space m.old).n) }
+    ensures { space m.new ≡ record (space m.old) { scratch = headed (space m.old).n (space m.old).scratch d front i } }
 {
     let n = m.columns();
     m.set(Field::Next, i, front);
@@ -58,8 +60,8 @@ fn head_list(m: &mut Memory, d: usize, front: usize, i: usize)
 // Puts row `i` to the front of the list of degree `d`. What stood there is told last, since there may be nothing.
 #[tactic(auto, unfolding(crate::specs::Model::pushed))]
 pub fn put_front(m: &mut Memory, d: usize, i: usize)
-    requires { (d < m.old.n) × (i < m.old.n) }
-    ensures { m.new ≡ record m.old { scratch = pushed m.old.n m.old.scratch d i } }
+    requires { (d < (space m.old).n) × (i < (space m.old).n) }
+    ensures { space m.new ≡ record (space m.old) { scratch = pushed (space m.old).n (space m.old).scratch d i } }
 {
     let front = m.get(Field::Head, d);
     head_list(m, d, front, i);
@@ -68,10 +70,10 @@ pub fn put_front(m: &mut Memory, d: usize, i: usize)
 
 // The front of the first list at or after the degree `least` that has one, and its degree. The search yields them by `break`: the user named this form.
 pub fn find_pivot(m: &Memory, least: usize) -> Option<Pivot>
-    ensures first { IfSome result (λ p. First m.now.n m.now.scratch least p.me p.degree) }
-    ensures row { IfSome result (λ p. p.me < m.now.n) }
+    ensures first { IfSome result (λ p. First (space m.now).n (space m.now).scratch least p.me p.degree) }
+    ensures row { IfSome result (λ p. p.me < (space m.now).n) }
     ensures degree { IfSome result (λ p. p.degree < 2 ^ 63) }
-    ensures none { IfNone result (First m.now.n m.now.scratch least m.now.n (max least m.now.n)) }
+    ensures none { IfNone result (First (space m.now).n (space m.now).scratch least (space m.now).n (max least (space m.now).n)) }
 {
     let n = m.columns();
     let mut d = least;
@@ -93,7 +95,7 @@ pub fn find_pivot(m: &Memory, least: usize) -> Option<Pivot>
 // No list has a front.
 #[tactic(auto, unfolding(crate::specs::Model::emptied))]
 fn empty_lists(m: &mut Memory)
-    ensures { m.new ≡ record m.old { scratch = emptied m.old.n m.old.scratch } }
+    ensures { space m.new ≡ record (space m.old) { scratch = emptied (space m.old).n (space m.old).scratch } }
 {
     let n = m.columns();
     m.fill(Field::Head, n);
@@ -103,8 +105,8 @@ fn empty_lists(m: &mut Memory)
 // as `n`.
 #[tactic(auto, unfolding(crate::specs::Model::enlisted_one))]
 fn enlist(m: &mut Memory, limit: usize, i: usize)
-    requires { i < m.old.n }
-    ensures { m.new ≡ record m.old { scratch = enlisted_one m.old.n limit i m.old.scratch } }
+    requires { i < (space m.old).n }
+    ensures { space m.new ≡ record (space m.old) { scratch = enlisted_one (space m.old).n limit i (space m.old).scratch } }
 {
     let d = m.get(Field::Len, i);
     if 0 < d && d <= limit && d < m.columns() {
@@ -115,7 +117,7 @@ fn enlist(m: &mut Memory, limit: usize, i: usize)
 // The lists at the start: each row of a length from 1 to `limit`, in ascending order.
 #[tactic(auto, using(plain::proofs::Turns::turns), unfolding(crate::specs::Model::enlisted_all))]
 pub fn enlist_all(m: &mut Memory, limit: usize)
-    ensures { m.new ≡ record m.old { scratch = enlisted_all m.old.n limit m.old.scratch } }
+    ensures { space m.new ≡ record (space m.old) { scratch = enlisted_all (space m.old).n limit (space m.old).scratch } }
 {
     empty_lists(m);
     for i in 0..m.columns() {

@@ -4,7 +4,7 @@
 
 ghost use Rattle.std.specs.Prelude.{◌≡◌, ◌<◌, ◌^◌};
 ghost use Rattle.cells.specs.View.{plus};
-ghost use Rattle.cells.specs.Space.{SameSize};
+ghost use Rattle.cells.specs.Space.{space, SameSize};
 ghost use Rattle.numbers.specs.Meaning.{statistics_meant};
 ghost use Rattle.elimination.specs.Model.{reduction, reduced, meeting, met, free_end, placement, placed, left_of, next_turn, stage, settled, ended, pivot_step, element_counted, first_turn, closed};
 ghost use Rattle.elimination.specs.Runs.{Turned, Ran, Whole};
@@ -56,14 +56,16 @@ pub struct Reduced {
 }
 
 // Steps 3 and 4 for the new element of a rule's pivot, in the part of the lists.
-#[tactic(auto, unfolding(crate::specs::Model::reduced, crate::specs::Model::trimmed_rows))]
+#[tactic(auto, unfolding(cells::specs::Space::space, crate::specs::Model::reduced, crate::specs::Model::trimmed_rows))]
 fn reduce(m: &mut Memory, r: Rule, part: Part, merges: usize) -> Reduced
-    requires { (r.me < m.old.n) × (r.flag < 2 ^ 63) × (merges < 2 ^ 63) }
-    ensures reduced { reduction m.new.lists m.new.scratch result ≡ reduced m.old.n r.me part.from part.len r.aggressive r.flag merges m.old.lists m.old.scratch }
-    ensures size { SameSize m.old m.new }
+    requires { (r.me < (space m.old).n) × (r.flag < 2 ^ 63) × (merges < 2 ^ 63) }
+    ensures reduced { reduction (space m.new).lists (space m.new).scratch result
+        ≡ reduced (space m.old).n r.me part.from part.len r.aggressive r.flag merges (space m.old).lists (space m.old).scratch }
+    ensures size { SameSize (space m.old) (space m.new) }
     ensures small { (result.size < 2 ^ 63) × (result.merges < 2 ^ 63) }
 {
-    let all = sizing::size_all(m, part, r.flag);
+    let rows = &mut *m.rows;
+    let all = sizing::size_all(rows, m.fields, m.columns, part, r.flag);
     let t = trimming::update_all(m, r, part, merges);
     Reduced {
         size: all.saturating_sub(t.weight),
@@ -104,9 +106,10 @@ impl Model for Met {
 // Steps 3 to 5. The flag rises above every counter of step 3 before step 5 marks with it.
 #[tactic(auto, unfolding(crate::specs::Model::met, crate::specs::Model::compared))]
 fn meet(m: &mut Memory, me: usize, part: Part, aggressive: bool, t: Turn) -> Met
-    requires { me < m.old.n }
-    ensures met { meeting m.new.lists m.new.scratch result ≡ met m.old.n me part.from part.len aggressive t m.old.lists m.old.scratch }
-    ensures size { SameSize m.old m.new }
+    requires { me < (space m.old).n }
+    ensures met { meeting (space m.new).lists (space m.new).scratch result
+        ≡ met (space m.old).n me part.from part.len aggressive t (space m.old).lists (space m.old).scratch }
+    ensures size { SameSize (space m.old) (space m.new) }
 {
     let rule = Rule {
         me,
@@ -146,9 +149,10 @@ fn free_end(new: Made, made: usize, count: usize) -> usize
 // The survivors of the new element are placed, `left` variables being left, and the pivot becomes the element.
 #[tactic(auto, unfolding(crate::specs::Model::placed))]
 fn place(m: &mut Memory, p: Pivot, new: Made, size: usize, left: usize) -> Restored
-    requires { (p.me < m.old.n) × (p.degree < 2 ^ 63) × (size < 2 ^ 63) × (left < m.old.n) }
-    ensures placed { placement m.new.lists m.new.scratch result ≡ placed m.old.n p.me p.degree new size left m.old.lists m.old.scratch }
-    ensures size { SameSize m.old m.new }
+    requires { (p.me < (space m.old).n) × (p.degree < 2 ^ 63) × (size < 2 ^ 63) × (left < (space m.old).n) }
+    ensures placed { placement (space m.new).lists (space m.new).scratch result
+        ≡ placed (space m.old).n p.me p.degree new size left (space m.old).lists (space m.old).scratch }
+    ensures size { SameSize (space m.old) (space m.new) }
     ensures small { (result.count < 2 ^ 63) × (result.least < 2 ^ 63) }
 {
     let part = Part {
@@ -191,9 +195,10 @@ fn next_turn(gone: usize, least: usize, free: usize, collections: usize, new: Ma
 // Step 6 for the pivot, with its new element; `gone` variables are gone then.
 #[tactic(auto, unfolding(crate::specs::Model::settled))]
 fn settle(m: &mut Memory, p: Pivot, new: Made, x: Met, t: Turn, gone: usize) -> Turn
-    requires { (p.me < m.old.n) × (p.degree < 2 ^ 63) × (gone < 2 ^ 63) }
-    ensures settled { stage m.new.lists m.new.scratch result ≡ settled m.old.n p.me p.degree new x t gone m.old.lists m.old.scratch }
-    ensures size { SameSize m.old m.new }
+    requires { (p.me < (space m.old).n) × (p.degree < 2 ^ 63) × (gone < 2 ^ 63) }
+    ensures settled { stage (space m.new).lists (space m.new).scratch result
+        ≡ settled (space m.old).n p.me p.degree new x t gone (space m.old).lists (space m.old).scratch }
+    ensures size { SameSize (space m.old) (space m.new) }
 {
     let left = count_left(m.columns(), gone);
     let r = place(m, p, new, x.size, left);
@@ -205,9 +210,10 @@ fn settle(m: &mut Memory, p: Pivot, new: Made, x: Met, t: Turn, gone: usize) -> 
 // The same, where the pivot has all of its pivots in NV.
 #[tactic(auto, unfolding(crate::specs::Model::ended))]
 fn end_pivot(m: &mut Memory, p: Pivot, new: Made, x: Met, t: Turn) -> Turn
-    requires { (p.me < m.old.n) × (p.degree < 2 ^ 63) }
-    ensures ended { stage m.new.lists m.new.scratch result ≡ ended m.old.n p.me p.degree new x t m.old.lists m.old.scratch }
-    ensures size { SameSize m.old m.new }
+    requires { (p.me < (space m.old).n) × (p.degree < 2 ^ 63) }
+    ensures ended { stage (space m.new).lists (space m.new).scratch result
+        ≡ ended (space m.old).n p.me p.degree new x t (space m.old).lists (space m.old).scratch }
+    ensures size { SameSize (space m.old) (space m.new) }
 {
     let pivots = m.get(Field::Nv, p.me);
     let gone = cells::plus(t.gone, pivots);
@@ -219,9 +225,10 @@ fn end_pivot(m: &mut Memory, p: Pivot, new: Made, x: Met, t: Turn) -> Turn
 // Steps 2 to 6 for the pivot.
 #[tactic(auto, unfolding(crate::specs::Model::pivot_step))]
 fn eliminate_pivot(m: &mut Memory, p: Pivot, aggressive: bool, t: Turn) -> Turn
-    requires { (p.me < m.old.n) × (p.degree < 2 ^ 63) }
-    ensures step { stage m.new.lists m.new.scratch result ≡ pivot_step m.old.n p.me p.degree aggressive t m.old.lists m.old.scratch }
-    ensures size { SameSize m.old m.new }
+    requires { (p.me < (space m.old).n) × (p.degree < 2 ^ 63) }
+    ensures step { stage (space m.new).lists (space m.new).scratch result
+        ≡ pivot_step (space m.old).n p.me p.degree aggressive t (space m.old).lists (space m.old).scratch }
+    ensures size { SameSize (space m.old) (space m.new) }
 {
     let new = opening::begin_pivot(
         m,
@@ -243,8 +250,8 @@ fn eliminate_pivot(m: &mut Memory, p: Pivot, aggressive: bool, t: Turn) -> Turn
 // With what the finished element `me` adds, where `dense` rows are dense.
 #[tactic(auto, unfolding(crate::specs::Model::element_counted))]
 fn count_element(m: &Memory, me: usize, dense: usize, x: Statistics) -> Statistics
-    requires { me < m.now.n }
-    ensures { statistics_meant result ≡ element_counted m.now.n me dense m.now.scratch (statistics_meant x) }
+    requires { me < (space m.now).n }
+    ensures { statistics_meant result ≡ element_counted (space m.now).n me dense (space m.now).scratch (statistics_meant x) }
 {
     let f = m.get(Field::Nv, me);
     let rest = m.get(Field::Degree, me);
@@ -263,8 +270,8 @@ pub struct Work {
 // One pivot, if there is one: steps 1 to 6, and what its element adds.
 #[tactic(auto, using(crate::proofs::Steps::turned_is, crate::proofs::Steps::turned_none))]
 fn take_turn(m: &mut Memory, aggressive: bool, dense: usize, w: Work) -> Work
-    ensures turned { Turned m.old.n aggressive dense m.old.lists m.old.scratch w m.new.lists m.new.scratch result }
-    ensures size { SameSize m.old m.new }
+    ensures turned { Turned (space m.old).n aggressive dense (space m.old).lists (space m.old).scratch w (space m.new).lists (space m.new).scratch result }
+    ensures size { SameSize (space m.old) (space m.new) }
 {
     match chain::find_pivot(m, w.turn.least) {
         Some(p) => {
@@ -279,8 +286,9 @@ fn take_turn(m: &mut Memory, aggressive: bool, dense: usize, w: Work) -> Work
 // Turn after turn until all variables are gone: each takes one at least, so n are enough.
 #[tactic(auto, using(crate::proofs::Steps::run_turns))]
 fn eliminate_all(m: &mut Memory, aggressive: bool, dense: usize, start: Work) -> Work
-    ensures ran { Ran m.old.n aggressive dense m.old.n m.old.lists m.old.scratch start m.new.lists m.new.scratch result }
-    ensures size { SameSize m.old m.new }
+    ensures ran { Ran (space m.old).n aggressive dense (space m.old).n (space m.old).lists (space m.old).scratch start (space m.new).lists
+        (space m.new).scratch result }
+    ensures size { SameSize (space m.old) (space m.new) }
 {
     let n = m.columns();
     let mut w = start;
@@ -334,8 +342,8 @@ fn close_statistics(x: Statistics, dense: usize, collections: usize) -> Statisti
 #[tactic(auto, using(crate::proofs::Steps::whole_is))]
 pub fn eliminate(m: &mut Memory, limit: usize, free: usize, aggressive: bool) -> Eliminated
     requires { free < 2 ^ 63 }
-    ensures whole { Whole m.old.n limit free aggressive m.old.lists m.old.scratch m.new.lists m.new.scratch result }
-    ensures size { SameSize m.old m.new }
+    ensures whole { Whole (space m.old).n limit free aggressive (space m.old).lists (space m.old).scratch (space m.new).lists (space m.new).scratch result }
+    ensures size { SameSize (space m.old) (space m.new) }
 {
     let a = opening::start(m, limit);
     let start = Work {

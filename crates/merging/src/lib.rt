@@ -7,7 +7,7 @@
 
 ghost use Rattle.std.specs.Prelude.{◌≡◌, ◌<◌, ◌^◌, length};
 ghost use Rattle.cells.specs.Layout.{W};
-ghost use Rattle.cells.specs.Space.{SameLists};
+ghost use Rattle.cells.specs.Space.{space, SameLists};
 ghost use Rattle.cells.specs.View.{at, up};
 ghost use Rattle.merging.specs.Model.{Slight, comparing, merging, marking, marked_list, all_marked, tail_marked, same_elements, alike_now};
 ghost use Rattle.merging.specs.Model.{joined, taken_next, compared, merged_into, merged_at, bucket_run, merged_key, merged_row, merged_rows};
@@ -55,9 +55,9 @@ struct Shape {
 
 // The row in cell `q` of the lists is marked.
 fn mark_one(m: &mut Memory, q: usize, flag: usize)
-    requires cell { q < length m.old.lists }
+    requires cell { q < length (space m.old).lists }
     requires small { flag < 2 ^ 63 }
-    ensures { m.new ≡ record m.old { scratch = up m.old.n W m.old.scratch (at m.old.lists q) flag } }
+    ensures { space m.new ≡ record (space m.old) { scratch = up (space m.old).n W (space m.old).scratch (at (space m.old).lists q) flag } }
 {
     let x = m.row(q);
     m.set(Field::W, x, flag);
@@ -67,7 +67,7 @@ fn mark_one(m: &mut Memory, q: usize, flag: usize)
 #[tactic(auto, unfolding(plain::specs::Turns::times, cells::specs::Rows::clipped, crate::specs::Model::marking))]
 fn mark_part(m: &mut Memory, part: Part, flag: usize)
     requires { flag < 2 ^ 63 }
-    ensures { m.new ≡ record m.old { scratch = marking m.old.lists m.old.n flag part.from part.len m.old.scratch } }
+    ensures { space m.new ≡ record (space m.old) { scratch = marking (space m.old).lists (space m.old).n flag part.from part.len (space m.old).scratch } }
 {
     for t in 0..m.clip(part) {
         mark_one(m, part.from + t, flag);
@@ -77,9 +77,9 @@ fn mark_part(m: &mut Memory, part: Part, flag: usize)
 // The entries of the list of `i` after the first are marked.
 #[tactic(auto, unfolding(crate::specs::Model::marked_list))]
 fn mark_entries(m: &mut Memory, i: usize, flag: usize)
-    requires node { i < m.old.n }
+    requires node { i < (space m.old).n }
     requires small { flag < 2 ^ 63 }
-    ensures { m.new ≡ record m.old { scratch = marked_list m.old.lists m.old.n flag i m.old.scratch } }
+    ensures { space m.new ≡ record (space m.old) { scratch = marked_list (space m.old).lists (space m.old).n flag i (space m.old).scratch } }
 {
     let p = m.get(Field::Pe, i);
     let k = m.get(Field::Len, i);
@@ -96,7 +96,7 @@ fn mark_entries(m: &mut Memory, i: usize, flag: usize)
 // The labelled exit stays: the user named this form for the comparison of rows.
 #[tactic(auto, using(crate::proofs::Walks::mark_turns))]
 fn all_marked(m: &Memory, part: Part, flag: usize) -> bool
-    ensures { result ≡ all_marked m.now.lists m.now.n m.now.scratch part.from part.len flag }
+    ensures { result ≡ all_marked (space m.now).lists (space m.now).n (space m.now).scratch part.from part.len flag }
 {
     let there = m.clip(part);
     let mut t = 0;
@@ -114,8 +114,8 @@ fn all_marked(m: &Memory, part: Part, flag: usize) -> bool
 // Are the entries of the list of `j` after the first, `len` being its length, all marked?
 #[tactic(auto, unfolding(crate::specs::Model::tail_marked))]
 fn tail_marked(m: &Memory, j: usize, len: usize, flag: usize) -> bool
-    requires { j < m.now.n }
-    ensures { result ≡ tail_marked m.now.lists m.now.n m.now.scratch j len flag }
+    requires { j < (space m.now).n }
+    ensures { result ≡ tail_marked (space m.now).lists (space m.now).n (space m.now).scratch j len flag }
 {
     let p = m.get(Field::Pe, j);
     let rest = Part {
@@ -128,8 +128,8 @@ fn tail_marked(m: &Memory, j: usize, len: usize, flag: usize) -> bool
 // Has `j` as many elements as the shape, and is the rest of its list, of the shape's length, marked?
 #[tactic(auto, unfolding(crate::specs::Model::same_elements))]
 fn same_elements(m: &Memory, j: usize, shape: Shape) -> bool
-    requires { j < m.now.n }
-    ensures { result ≡ same_elements m.now.lists m.now.n m.now.scratch j shape.len shape.elen shape.flag }
+    requires { j < (space m.now).n }
+    ensures { result ≡ same_elements (space m.now).lists (space m.now).n (space m.now).scratch j shape.len shape.elen shape.flag }
 {
     shape.elen == m.get(Field::Elen, j) && tail_marked(m, j, shape.len, shape.flag)
 }
@@ -137,8 +137,8 @@ fn same_elements(m: &Memory, j: usize, shape: Shape) -> bool
 // Has `j` a list of this shape? Never read past the list of `j`.
 #[tactic(auto, unfolding(crate::specs::Model::alike_now))]
 fn alike(m: &Memory, j: usize, shape: Shape) -> bool
-    requires { j < m.now.n }
-    ensures { result ≡ alike_now m.now.lists m.now.n m.now.scratch j shape.len shape.elen shape.flag }
+    requires { j < (space m.now).n }
+    ensures { result ≡ alike_now (space m.now).lists (space m.now).n (space m.now).scratch j shape.len shape.elen shape.flag }
 {
     shape.len == m.get(Field::Len, j) && same_elements(m, j, shape)
 }
@@ -148,9 +148,9 @@ fn alike(m: &Memory, j: usize, shape: Shape) -> bool
 // Row `j` is merged into `i`, as merge number `logged`.
 #[tactic(auto, unfolding(packed::specs::Model::joined_row, crate::specs::Model::joined, crate::specs::Model::weighed, crate::specs::Model::left))]
 fn merge(m: &mut Memory, i: usize, j: usize, logged: usize)
-    requires taker { i < m.old.n }
-    requires taken { j < m.old.n }
-    ensures { m.new ≡ record m.old { scratch = joined m.old.n m.old.scratch i j logged } }
+    requires taker { i < (space m.old).n }
+    requires taken { j < (space m.old).n }
+    ensures { space m.new ≡ record (space m.old) { scratch = joined (space m.old).n (space m.old).scratch i j logged } }
 {
     packed::join(m, i, j, logged);
 }
@@ -160,13 +160,13 @@ fn merge(m: &mut Memory, i: usize, j: usize, logged: usize)
 // The next row of the walk, which `next` stands behind, is merged into `i` and leaves the bucket.
 #[tactic(auto, unfolding(crate::specs::Model::taken_next))]
 fn take_next(m: &mut Memory, i: usize, next: usize, w: Trail) -> Trail
-    requires taker { i < m.old.n }
+    requires taker { i < (space m.old).n }
     requires small { next < 2 ^ 63 }
-    requires taken { w.next < m.old.n }
-    requires slight { Slight m.old.n w }
-    ensures taken { comparing m.new.scratch result ≡ taken_next m.old.n i next (comparing m.old.scratch w) }
-    ensures lists { SameLists m.old m.new }
-    ensures slight { Slight m.old.n result }
+    requires taken { w.next < (space m.old).n }
+    requires slight { Slight (space m.old).n w }
+    ensures taken { comparing (space m.new).scratch result ≡ taken_next (space m.old).n i next (comparing (space m.old).scratch w) }
+    ensures lists { SameLists (space m.old) (space m.new) }
+    ensures slight { Slight (space m.old).n result }
 {
     merge(m, i, w.next, w.logged);
     m.set(Field::HNext, w.last, next);
@@ -177,12 +177,13 @@ fn take_next(m: &mut Memory, i: usize, next: usize, w: Trail) -> Trail
 // The same if it has a list of this shape, which `i` has; if not, it is passed by.
 #[tactic(auto, unfolding(crate::specs::Model::compared, crate::specs::Model::passed_next))]
 fn compare_next(m: &mut Memory, i: usize, shape: Shape, w: Trail) -> Trail
-    requires taker { i < m.old.n }
-    requires next { w.next < m.old.n }
-    requires slight { Slight m.old.n w }
-    ensures compared { comparing m.new.scratch result ≡ compared m.old.lists m.old.n i shape.len shape.elen shape.flag (comparing m.old.scratch w) }
-    ensures lists { SameLists m.old m.new }
-    ensures slight { Slight m.old.n result }
+    requires taker { i < (space m.old).n }
+    requires next { w.next < (space m.old).n }
+    requires slight { Slight (space m.old).n w }
+    ensures compared { comparing (space m.new).scratch result
+        ≡ compared (space m.old).lists (space m.old).n i shape.len shape.elen shape.flag (comparing (space m.old).scratch w) }
+    ensures lists { SameLists (space m.old) (space m.new) }
+    ensures slight { Slight (space m.old).n result }
 {
     let next = m.get(Field::HNext, w.next);
     if alike(m, w.next, shape) {
@@ -200,11 +201,11 @@ fn compare_next(m: &mut Memory, i: usize, shape: Shape, w: Trail) -> Trail
 // logged. What each is compared with is read once: a merge into `i` leaves its list as it is.
 #[tactic(auto, using(crate::proofs::Walks::walk_turns))]
 fn merge_into(m: &mut Memory, i: usize, behind: usize, k: usize, t: Tally) -> usize
-    requires taker { i < m.old.n }
+    requires taker { i < (space m.old).n }
     requires small { behind < 2 ^ 63 }
-    ensures merged { merging m.new.scratch (record { flag = t.flag; logged = result })
-        ≡ merged_into m.old.lists m.old.n k i behind (merging m.old.scratch t) }
-    ensures lists { SameLists m.old m.new }
+    ensures merged { merging (space m.new).scratch (record { flag = t.flag; logged = result })
+        ≡ merged_into (space m.old).lists (space m.old).n k i behind (merging (space m.old).scratch t) }
+    ensures lists { SameLists (space m.old) (space m.new) }
     ensures small { result < 2 ^ 63 }
 {
     let n = m.columns();
@@ -230,10 +231,10 @@ fn merge_into(m: &mut Memory, i: usize, behind: usize, k: usize, t: Tally) -> us
 // Row `i` takes those behind it in its bucket, from `behind` on, that have its list; the flag is used up.
 #[tactic(auto, unfolding(crate::specs::Model::merged_at))]
 fn merge_at(m: &mut Memory, i: usize, behind: usize, k: usize, t: Tally) -> Tally
-    requires taker { i < m.old.n }
+    requires taker { i < (space m.old).n }
     requires small { behind < 2 ^ 63 }
-    ensures merged { merging m.new.scratch result ≡ merged_at m.old.lists m.old.n k i behind (merging m.old.scratch t) }
-    ensures lists { SameLists m.old m.new }
+    ensures merged { merging (space m.new).scratch result ≡ merged_at (space m.old).lists (space m.old).n k i behind (merging (space m.old).scratch t) }
+    ensures lists { SameLists (space m.old) (space m.new) }
 {
     mark_entries(m, i, t.flag);
     let logged = merge_into(m, i, behind, k, t);
@@ -244,8 +245,8 @@ fn merge_at(m: &mut Memory, i: usize, behind: usize, k: usize, t: Tally) -> Tall
 // A bucket from its newest row `first` on, at most `k` rows of it, as long as there is anybody behind.
 #[tactic(auto, using(crate::proofs::Walks::run_turns))]
 fn merge_bucket(m: &mut Memory, first: usize, k: usize, start: Tally) -> Tally
-    ensures merged { merging m.new.scratch result ≡ bucket_run m.old.lists m.old.n k k first (merging m.old.scratch start) }
-    ensures lists { SameLists m.old m.new }
+    ensures merged { merging (space m.new).scratch result ≡ bucket_run (space m.old).lists (space m.old).n k k first (merging (space m.old).scratch start) }
+    ensures lists { SameLists (space m.old) (space m.new) }
 {
     let n = m.columns();
     let mut i = first;
@@ -269,8 +270,8 @@ fn merge_bucket(m: &mut Memory, first: usize, k: usize, start: Tally) -> Tally
 // The bucket of `key` is emptied, and its rows compared, if there is such a bucket.
 #[tactic(auto, unfolding(crate::specs::Model::merged_key))]
 fn merge_key(m: &mut Memory, key: usize, k: usize, t: Tally) -> Tally
-    ensures merged { merging m.new.scratch result ≡ merged_key m.old.lists m.old.n k key (merging m.old.scratch t) }
-    ensures lists { SameLists m.old m.new }
+    ensures merged { merging (space m.new).scratch result ≡ merged_key (space m.old).lists (space m.old).n k key (merging (space m.old).scratch t) }
+    ensures lists { SameLists (space m.old) (space m.new) }
 {
     let n = m.columns();
     if key < n {
@@ -285,9 +286,9 @@ fn merge_key(m: &mut Memory, key: usize, k: usize, t: Tally) -> Tally
 // The bucket of the row in cell `q` of the lists, if that row is still there.
 #[tactic(auto, unfolding(crate::specs::Model::merged_row, crate::specs::Model::merged_of))]
 fn merge_row(m: &mut Memory, q: usize, k: usize, t: Tally) -> Tally
-    requires cell { q < length m.old.lists }
-    ensures merged { merging m.new.scratch result ≡ merged_row m.old.lists m.old.n k q (merging m.old.scratch t) }
-    ensures lists { SameLists m.old m.new }
+    requires cell { q < length (space m.old).lists }
+    ensures merged { merging (space m.new).scratch result ≡ merged_row (space m.old).lists (space m.old).n k q (merging (space m.old).scratch t) }
+    ensures lists { SameLists (space m.old) (space m.new) }
 {
     let i = m.row(q);
     let weight = m.get(Field::Nv, i);
@@ -302,8 +303,9 @@ fn merge_row(m: &mut Memory, q: usize, k: usize, t: Tally) -> Tally
 // Step 5, for the new element in a part of the lists. The result is the next flag, and how many merges are logged.
 #[tactic(auto, unfolding(plain::specs::Turns::times, cells::specs::Rows::clipped, crate::specs::Model::merged_rows))]
 pub fn merge_all(m: &mut Memory, part: Part, start: Tally) -> Tally
-    ensures merged { merging m.new.scratch result ≡ merged_rows m.old.lists m.old.n part.from part.len (merging m.old.scratch start) }
-    ensures lists { SameLists m.old m.new }
+    ensures merged { merging (space m.new).scratch result
+        ≡ merged_rows (space m.old).lists (space m.old).n part.from part.len (merging (space m.old).scratch start) }
+    ensures lists { SameLists (space m.old) (space m.new) }
 {
     let mut t = start;
     for i in 0..m.clip(part) {

@@ -6,7 +6,7 @@
 
 ghost use Rattle.std.specs.Prelude.{◌≡◌, ◌<◌, ◌^◌};
 ghost use Rattle.cells.specs.View.{up};
-ghost use Rattle.cells.specs.Space.{SameLists, SameSize};
+ghost use Rattle.cells.specs.Space.{space, SameLists, SameSize};
 ghost use Rattle.cells.specs.Layout.{WANT};
 ghost use Rattle.chain.specs.Model.{removed};
 ghost use Rattle.packed.specs.Gather.{outside};
@@ -22,7 +22,7 @@ use std::marker::Model;
 // Row `i` stands for itself alone, and has no elements.
 #[tactic(auto, unfolding(crate::specs::Start::weighed))]
 fn weigh(m: &mut Memory, i: usize)
-    ensures { m.new ≡ record m.old { scratch = weighed m.old.n i m.old.scratch } }
+    ensures { space m.new ≡ record (space m.old) { scratch = weighed (space m.old).n i (space m.old).scratch } }
 {
     m.up(Field::Nv, i, 1);
     m.up(Field::Want, i, 1);
@@ -32,7 +32,7 @@ fn weigh(m: &mut Memory, i: usize)
 // The degree of row `i` is its length, its mark is 1, and no row has the key `i`.
 #[tactic(auto, unfolding(crate::specs::Start::marked))]
 fn mark(m: &mut Memory, i: usize)
-    ensures { m.new ≡ record m.old { scratch = marked m.old.n i m.old.scratch } }
+    ensures { space m.new ≡ record (space m.old) { scratch = marked (space m.old).n i (space m.old).scratch } }
 {
     let d = m.rd(Field::Len, i);
     m.up(Field::Degree, i, d);
@@ -43,7 +43,7 @@ fn mark(m: &mut Memory, i: usize)
 // Row `i` begins.
 #[tactic(auto, unfolding(crate::specs::Start::begun))]
 fn start_row(m: &mut Memory, i: usize)
-    ensures { m.new ≡ record m.old { scratch = begun m.old.n i m.old.scratch } }
+    ensures { space m.new ≡ record (space m.old) { scratch = begun (space m.old).n i (space m.old).scratch } }
 {
     weigh(m, i);
     mark(m, i);
@@ -52,7 +52,7 @@ fn start_row(m: &mut Memory, i: usize)
 // Every row begins.
 #[tactic(auto, unfolding(plain::specs::Turns::times, crate::specs::Start::begun_all))]
 fn start_rows(m: &mut Memory)
-    ensures { m.new ≡ record m.old { scratch = begun_all m.old.n m.old.scratch } }
+    ensures { space m.new ≡ record (space m.old) { scratch = begun_all (space m.old).n (space m.old).scratch } }
 {
     for i in 0..m.columns() {
         start_row(m, i);
@@ -62,7 +62,7 @@ fn start_rows(m: &mut Memory)
 // Row `i`, which has no neighbours, is an element of size 1, and a root.
 #[tactic(auto, unfolding(crate::specs::Start::rooted))]
 fn set_root(m: &mut Memory, i: usize)
-    ensures { m.new ≡ record m.old { scratch = rooted m.old.n i m.old.scratch } }
+    ensures { space m.new ≡ record (space m.old) { scratch = rooted (space m.old).n i (space m.old).scratch } }
 {
     m.up(Field::Want, i, 0);
     m.up(Field::Elen, i, 1);
@@ -73,7 +73,7 @@ fn set_root(m: &mut Memory, i: usize)
 // Row `i`, which is dense, leaves with no parent.
 #[tactic(auto, unfolding(crate::specs::Start::left_out))]
 fn set_dense(m: &mut Memory, i: usize)
-    ensures { m.new ≡ record m.old { scratch = left_out m.old.n i m.old.scratch } }
+    ensures { space m.new ≡ record (space m.old) { scratch = left_out (space m.old).n i (space m.old).scratch } }
 {
     m.up(Field::Nv, i, 0);
     m.up(Field::Want, i, 0);
@@ -103,8 +103,8 @@ impl Model for Aside {
 // Row `i` is set aside, if it is to be.
 #[tactic(auto, unfolding(crate::specs::Start::set_one, crate::specs::Start::set_dense, crate::specs::Start::set_root))]
 fn set_one(m: &mut Memory, limit: usize, i: usize, a: Aside) -> Aside
-    ensures set { setting m.new.scratch result ≡ set_one m.old.n limit i (setting m.old.scratch a) }
-    ensures lists { SameLists m.old m.new }
+    ensures set { setting (space m.new).scratch result ≡ set_one (space m.old).n limit i (setting (space m.old).scratch a) }
+    ensures lists { SameLists (space m.old) (space m.new) }
 {
     match m.rd(Field::Len, i) {
         0 => {
@@ -128,8 +128,8 @@ fn set_one(m: &mut Memory, limit: usize, i: usize, a: Aside) -> Aside
 // Every row that is to be is set aside.
 #[tactic(auto, unfolding(plain::specs::Turns::times, crate::specs::Start::set_all))]
 fn set_aside(m: &mut Memory, limit: usize) -> Aside
-    ensures set { setting m.new.scratch result ≡ set_all m.old.n limit m.old.scratch }
-    ensures lists { SameLists m.old m.new }
+    ensures set { setting (space m.new).scratch result ≡ set_all (space m.old).n limit (space m.old).scratch }
+    ensures lists { SameLists (space m.old) (space m.new) }
 {
     let mut a = Aside::default();
     for i in 0..m.columns() {
@@ -141,8 +141,8 @@ fn set_aside(m: &mut Memory, limit: usize) -> Aside
 // The start: what the elimination finds, where LEN and PE are those of the built lists.
 #[tactic(auto, unfolding(crate::specs::Start::opened))]
 pub fn start(m: &mut Memory, limit: usize) -> Aside
-    ensures opened { setting m.new.scratch result ≡ opened m.old.n limit m.old.scratch }
-    ensures lists { SameLists m.old m.new }
+    ensures opened { setting (space m.new).scratch result ≡ opened (space m.old).n limit (space m.old).scratch }
+    ensures lists { SameLists (space m.old) (space m.new) }
 {
     start_rows(m);
     chain::enlist_all(m, limit);
@@ -154,9 +154,10 @@ pub fn start(m: &mut Memory, limit: usize) -> Aside
 // The new element of a pivot without elements, in its own place, which is stored anew: whoever asks for a parent there finds none.
 #[tactic(auto, unfolding(crate::specs::Begin::gathered_alone))]
 fn gather_alone(m: &mut Memory, me: usize, e: Extent) -> Made
-    requires { (me < m.old.n) × (e.free < 2 ^ 63) × (e.made < 2 ^ 63) }
-    ensures gathered { outside m.new.lists m.new.scratch result ≡ gathered_alone m.old.n me e.base e.free e.made m.old.lists m.old.scratch }
-    ensures size { SameSize m.old m.new }
+    requires { (me < (space m.old).n) × (e.free < 2 ^ 63) × (e.made < 2 ^ 63) }
+    ensures gathered { outside (space m.new).lists (space m.new).scratch result
+        ≡ gathered_alone (space m.old).n me e.base e.free e.made (space m.old).lists (space m.old).scratch }
+    ensures size { SameSize (space m.old) (space m.new) }
 {
     let start = m.get(Field::Pe, me);
     let count = packed::gather_in_place(m, me);
@@ -174,9 +175,10 @@ fn gather_alone(m: &mut Memory, me: usize, e: Extent) -> Made
 // The new element of a pivot: one with elements takes them up, and gets a place behind all others.
 #[tactic(auto, unfolding(crate::specs::Begin::gathered))]
 fn gather(m: &mut Memory, me: usize, e: Extent) -> Made
-    requires { (me < m.old.n) × (e.free < 2 ^ 63) × (e.made < 2 ^ 63) }
-    ensures gathered { outside m.new.lists m.new.scratch result ≡ gathered m.old.n me e.base e.free e.made m.old.lists m.old.scratch }
-    ensures size { SameSize m.old m.new }
+    requires { (me < (space m.old).n) × (e.free < 2 ^ 63) × (e.made < 2 ^ 63) }
+    ensures gathered { outside (space m.new).lists (space m.new).scratch result
+        ≡ gathered (space m.old).n me e.base e.free e.made (space m.old).lists (space m.old).scratch }
+    ensures size { SameSize (space m.old) (space m.new) }
 {
     if 0 < m.get(Field::Elen, me) {
         packed::gather_outside(m, me, e)
@@ -186,20 +188,22 @@ fn gather(m: &mut Memory, me: usize, e: Extent) -> Made
 }
 
 // The pivot `me` leaves its degree list and is wanted no more.
+#[tactic(auto, unfolding(cells::specs::Space::space))]
 fn leave(m: &mut Memory, me: usize)
-    requires { me < m.old.n }
-    ensures { m.new ≡ record m.old { scratch = up m.old.n WANT (removed m.old.n m.old.scratch me) me 0 } }
+    requires { me < (space m.old).n }
+    ensures { space m.new ≡ record (space m.old) { scratch = up (space m.old).n WANT (removed (space m.old).n (space m.old).scratch me) me 0 } }
 {
-    chain::take_out(m, me);
+    chain::take_out(m.fields, m.columns, me);
     m.set(Field::Want, me, 0);
 }
 
 // The pivot `me` leaves its degree list and is wanted no more, and its new element is gathered, whose rows leave their degree lists.
 #[tactic(auto, unfolding(crate::specs::Begin::pivoted))]
 pub fn begin_pivot(m: &mut Memory, me: usize, e: Extent) -> Made
-    requires { (me < m.old.n) × (e.free < 2 ^ 63) × (e.made < 2 ^ 63) }
-    ensures gathered { outside m.new.lists m.new.scratch result ≡ pivoted m.old.n me e.base e.free e.made m.old.lists m.old.scratch }
-    ensures size { SameSize m.old m.new }
+    requires { (me < (space m.old).n) × (e.free < 2 ^ 63) × (e.made < 2 ^ 63) }
+    ensures gathered { outside (space m.new).lists (space m.new).scratch result
+        ≡ pivoted (space m.old).n me e.base e.free e.made (space m.old).lists (space m.old).scratch }
+    ensures size { SameSize (space m.old) (space m.new) }
 {
     leave(m, me);
     gather(m, me, e)

@@ -7,6 +7,7 @@ ghost use Rattle.definition.specs.Limits.{base_limits};
 ghost use Rattle.definition.specs.Threshold.{rule_of, threshold};
 ghost use Rattle.definition.specs.Answers.{accepts, answer_of, or_full_rows};
 ghost use Rattle.definition.specs.Promise.{problem_of, after};
+ghost use Rattle.cells.specs.Space.{space};
 ghost use Rattle.numbers.specs.Meaning.{answer_meant};
 ghost use Rattle.ordering.specs.Left.{lent, left};
 ghost use Rattle.ordering.specs.Course.{Course};
@@ -36,8 +37,8 @@ const MOST_LISTS: usize = 0x2000_0000_0000_0000;
 
 // ---- the ordering
 
-// The pattern is taken, its graph eliminated, and the tree that this leaves put in order. The two outputs stay two lent slices: a struct that held them would
-// hide from who lends them what they hold afterwards. That the multiplier has a rule stays a clause: the settings hold any f64, a form that the user named.
+// The pattern is taken, its graph eliminated, and the tree that this leaves put in order. The two outputs stay two lent slices, as `order` takes them. That the
+// multiplier has a rule stays a clause: the settings hold any f64, a form that the user named.
 fn order_pattern(
     m: &mut Memory,
     pattern: Columns,
@@ -46,8 +47,9 @@ fn order_pattern(
     inverse: &mut [i32],
     jumbled: bool,
 ) -> Statistics
-    requires { (m.old.n ≤ base_limits.most_columns) × (is_none (rule_of settings.multiplier) ≡ false) }
-    ensures { Course m.old.n pattern.entry.pointers.now pattern.entry.rows.now settings jumbled m.old.lists m.old.scratch permutation.old inverse.old permutation.new inverse.new result }
+    requires { ((space m.old).n ≤ base_limits.most_columns) × (is_none (rule_of settings.multiplier) ≡ false) }
+    ensures { Course (space m.old).n pattern.entry.pointers.now pattern.entry.rows.now settings jumbled (space m.old).lists
+        (space m.old).scratch permutation.old inverse.old permutation.new inverse.new result }
 {
     let free = pattern::take_pattern(m, pattern, jumbled);
     let limit = limit_of(settings, m.columns());

@@ -7,7 +7,7 @@
 
 ghost use Rattle.std.specs.Prelude.{◌≡◌, ◌+◌, ◌<◌, ◌≤◌, ◌^◌};
 ghost use Rattle.cells.specs.View.{rd};
-ghost use Rattle.cells.specs.Space.{SameLists, SameSize};
+ghost use Rattle.cells.specs.Space.{space, SameLists, SameSize};
 ghost use Rattle.pattern.specs.Reach.{reach, behind, past};
 ghost use Rattle.pattern.specs.Model.{copied_pointers, copied_rows, copied, cleared, cleared_all, rowed, visited, visited_column, visited_next, visited_all, spot, placed_row, placed_rows, transposed, tidied, heap, added, paired, paired_at, paired_part, passed, met, met_part, met_column, met_columns, met_rest, met_rests, scanned, emptied_all, placed_list, placed_lists, built, built_free};
 
@@ -24,7 +24,7 @@ pub struct Columns<'a> {
 
 #[tactic(auto, using(plain::proofs::Turns::turns), unfolding(crate::specs::Model::copied_pointers, crate::specs::Model::copied_pointer))]
 pub fn copy_pointers(m: &mut Memory, pointers: &[i32])
-    ensures { m.new ≡ record m.old { scratch = copied_pointers m.old.n pointers.now m.old.scratch } }
+    ensures { space m.new ≡ record (space m.old) { scratch = copied_pointers (space m.old).n pointers.now (space m.old).scratch } }
 {
     for k in 0..=m.columns() {
         m.put_column(k, cells::row_at(pointers, k));
@@ -33,7 +33,7 @@ pub fn copy_pointers(m: &mut Memory, pointers: &[i32])
 
 #[tactic(auto, using(plain::proofs::Turns::turns), unfolding(crate::specs::Model::copied_rows, crate::specs::Model::copied_row))]
 pub fn copy_rows(m: &mut Memory, rows: &[i32], count: usize)
-    ensures { m.new ≡ record m.old { scratch = copied_rows m.old.n rows.now count m.old.scratch } }
+    ensures { space m.new ≡ record (space m.old) { scratch = copied_rows (space m.old).n rows.now count (space m.old).scratch } }
 {
     for p in 0..count {
         m.put_entry(p, cells::row_at(rows, p));
@@ -42,7 +42,7 @@ pub fn copy_rows(m: &mut Memory, rows: &[i32], count: usize)
 
 #[tactic(auto, unfolding(crate::specs::Model::copied))]
 pub fn copy(m: &mut Memory, pattern: Columns)
-    ensures { m.new ≡ record m.old { scratch = copied m.old.n pattern.entry.pointers.now pattern.entry.rows.now m.old.scratch } }
+    ensures { space m.new ≡ record (space m.old) { scratch = copied (space m.old).n pattern.entry.pointers.now pattern.entry.rows.now (space m.old).scratch } }
 {
     copy_pointers(m, pattern.pointers);
     let count = cells::row_at(pattern.pointers, m.columns());
@@ -53,7 +53,7 @@ pub fn copy(m: &mut Memory, pattern: Columns)
 
 #[tactic(auto, unfolding(crate::specs::Model::cleared))]
 pub fn clear_row(m: &mut Memory, i: usize)
-    ensures { m.new ≡ record m.old { scratch = cleared m.old.n i m.old.scratch } }
+    ensures { space m.new ≡ record (space m.old) { scratch = cleared (space m.old).n i (space m.old).scratch } }
 {
     m.up(SP, i, 0);
     m.up(TP, i, 0);
@@ -61,7 +61,7 @@ pub fn clear_row(m: &mut Memory, i: usize)
 
 #[tactic(auto, using(plain::proofs::Turns::turns), unfolding(crate::specs::Model::cleared_all))]
 pub fn start_cleaning(m: &mut Memory)
-    ensures { m.new ≡ record m.old { scratch = cleared_all m.old.n m.old.scratch } }
+    ensures { space m.new ≡ record (space m.old) { scratch = cleared_all (space m.old).n (space m.old).scratch } }
 {
     for i in 0..m.columns() {
         clear_row(m, i);
@@ -71,8 +71,8 @@ pub fn start_cleaning(m: &mut Memory)
 // Column `j` becomes the next entry of row `i`.
 #[tactic(auto, unfolding(crate::specs::Model::rowed))]
 pub fn write_row(m: &mut Memory, j: usize, i: usize)
-    requires { j < m.old.n }
-    ensures { m.new ≡ record m.old { scratch = rowed m.old.n j i m.old.scratch } }
+    requires { j < (space m.old).n }
+    ensures { space m.new ≡ record (space m.old) { scratch = rowed (space m.old).n j i (space m.old).scratch } }
 {
     prove!(j < m.columns());
     let at = m.rd(SP, i);
@@ -84,8 +84,8 @@ pub fn write_row(m: &mut Memory, j: usize, i: usize)
 // The same where column `j` did not have row `i` before.
 #[tactic(auto, unfolding(crate::specs::Model::visited))]
 pub fn visit(m: &mut Memory, j: usize, i: usize)
-    requires { j < m.old.n }
-    ensures { m.new ≡ record m.old { scratch = visited m.old.n j i m.old.scratch } }
+    requires { j < (space m.old).n }
+    ensures { space m.new ≡ record (space m.old) { scratch = visited (space m.old).n j i (space m.old).scratch } }
 {
     prove!(j < m.columns());
     let last = m.rd(TP, i);
@@ -98,8 +98,8 @@ pub fn visit(m: &mut Memory, j: usize, i: usize)
 #[inline(always)]
 #[tactic(auto, using(plain::proofs::Turns::turns), unfolding(crate::specs::Model::visited_column))]
 pub fn visit_column(m: &mut Memory, rows: &[i32], j: usize, from: usize, count: usize)
-    requires { (j < m.old.n) × (from < 2 ^ 63) × (count < 2 ^ 63) }
-    ensures { m.new ≡ record m.old { scratch = visited_column m.old.n rows.now j from count m.old.scratch } }
+    requires { (j < (space m.old).n) × (from < 2 ^ 63) × (count < 2 ^ 63) }
+    ensures { space m.new ≡ record (space m.old) { scratch = visited_column (space m.old).n rows.now j from count (space m.old).scratch } }
 {
     for t in 0..count {
         visit(m, j, cells::row_at(rows, from + t));
@@ -109,8 +109,9 @@ pub fn visit_column(m: &mut Memory, rows: &[i32], j: usize, from: usize, count: 
 #[inline(always)]
 #[tactic(auto, unfolding(crate::specs::Model::visited_next))]
 pub fn visit_next(m: &mut Memory, pattern: Columns, j: usize)
-    requires { j < m.old.n }
-    ensures { m.new ≡ record m.old { scratch = visited_next m.old.n pattern.entry.pointers.now pattern.entry.rows.now j m.old.scratch } }
+    requires { j < (space m.old).n }
+    ensures { space m.new
+        ≡ record (space m.old) { scratch = visited_next (space m.old).n pattern.entry.pointers.now pattern.entry.rows.now j (space m.old).scratch } }
 {
     prove!(j < m.columns());
     let from = cells::row_at(pattern.pointers, j);
@@ -121,7 +122,8 @@ pub fn visit_next(m: &mut Memory, pattern: Columns, j: usize)
 #[inline(always)]
 #[tactic(auto, using(plain::proofs::Turns::turns), unfolding(crate::specs::Model::visited_all))]
 pub fn visit_all(m: &mut Memory, pattern: Columns)
-    ensures { m.new ≡ record m.old { scratch = visited_all m.old.n pattern.entry.pointers.now pattern.entry.rows.now m.old.scratch } }
+    ensures { space m.new
+        ≡ record (space m.old) { scratch = visited_all (space m.old).n pattern.entry.pointers.now pattern.entry.rows.now (space m.old).scratch } }
 {
     for j in 0..m.columns() {
         visit_next(m, pattern, j);
@@ -132,8 +134,8 @@ pub fn visit_all(m: &mut Memory, pattern: Columns)
 #[tactic(auto, unfolding(crate::specs::Model::placed_row))]
 pub fn place_row(m: &mut Memory, i: usize, free: usize) -> usize
     requires { free < 2 ^ 63 }
-    ensures memory { spot m.new.scratch result ≡ placed_row m.old.n i (spot m.old.scratch free) }
-    ensures lists { SameLists m.old m.new }
+    ensures memory { spot (space m.new).scratch result ≡ placed_row (space m.old).n i (spot (space m.old).scratch free) }
+    ensures lists { SameLists (space m.old) (space m.new) }
     ensures small { result < 2 ^ 63 }
 {
     let count = m.rd(SP, i);
@@ -145,8 +147,8 @@ pub fn place_row(m: &mut Memory, i: usize, free: usize) -> usize
 
 #[tactic(auto, using(plain::proofs::Turns::turns), unfolding(crate::specs::Model::placed_rows))]
 pub fn place_rows(m: &mut Memory) -> usize
-    ensures memory { spot m.new.scratch result ≡ placed_rows m.old.n m.old.scratch }
-    ensures lists { SameLists m.old m.new }
+    ensures memory { spot (space m.new).scratch result ≡ placed_rows (space m.old).n (space m.old).scratch }
+    ensures lists { SameLists (space m.old) (space m.new) }
     ensures small { result < 2 ^ 63 }
 {
     let mut free = 0;
@@ -158,7 +160,8 @@ pub fn place_rows(m: &mut Memory) -> usize
 
 #[tactic(auto, unfolding(crate::specs::Model::transposed, crate::specs::Model::closed_rows))]
 pub fn clean(m: &mut Memory, pattern: Columns)
-    ensures { m.new ≡ record m.old { scratch = transposed m.old.n pattern.entry.pointers.now pattern.entry.rows.now m.old.scratch } }
+    ensures { space m.new
+        ≡ record (space m.old) { scratch = transposed (space m.old).n pattern.entry.pointers.now pattern.entry.rows.now (space m.old).scratch } }
 {
     start_cleaning(m);
     visit_all(m, pattern);
@@ -170,7 +173,8 @@ pub fn clean(m: &mut Memory, pattern: Columns)
 // `jumbled` is a bool: of the answers two are accepted, 1 and 0, and `tidied` takes which of them it is.
 #[tactic(auto, unfolding(crate::specs::Model::tidied))]
 pub fn tidy(m: &mut Memory, pattern: Columns, jumbled: bool)
-    ensures { m.new ≡ record m.old { scratch = tidied m.old.n pattern.entry.pointers.now pattern.entry.rows.now jumbled m.old.scratch } }
+    ensures { space m.new
+        ≡ record (space m.old) { scratch = tidied (space m.old).n pattern.entry.pointers.now pattern.entry.rows.now jumbled (space m.old).scratch } }
 {
     if jumbled {
         clean(m, pattern);
@@ -184,9 +188,9 @@ pub fn tidy(m: &mut Memory, pattern: Columns, jumbled: bool)
 // `x` becomes the next neighbour of `i`.
 #[tactic(auto, unfolding(crate::specs::Model::added))]
 pub fn add(m: &mut Memory, i: usize, x: usize)
-    requires { (i < m.old.n) × (x < m.old.n) }
-    ensures memory { heap m.new.lists m.new.scratch ≡ added m.old.n i x (heap m.old.lists m.old.scratch) }
-    ensures size { SameSize m.old m.new }
+    requires { (i < (space m.old).n) × (x < (space m.old).n) }
+    ensures memory { heap (space m.new).lists (space m.new).scratch ≡ added (space m.old).n i x (heap (space m.old).lists (space m.old).scratch) }
+    ensures size { SameSize (space m.old) (space m.new) }
 {
     let at = m.get(SP, i);
     m.poke_row(at, x);
@@ -195,9 +199,9 @@ pub fn add(m: &mut Memory, i: usize, x: usize)
 
 #[tactic(auto, unfolding(crate::specs::Model::paired))]
 pub fn add_pair(m: &mut Memory, i: usize, j: usize)
-    requires { (i < m.old.n) × (j < m.old.n) }
-    ensures memory { heap m.new.lists m.new.scratch ≡ paired m.old.n i j (heap m.old.lists m.old.scratch) }
-    ensures size { SameSize m.old m.new }
+    requires { (i < (space m.old).n) × (j < (space m.old).n) }
+    ensures memory { heap (space m.new).lists (space m.new).scratch ≡ paired (space m.old).n i j (heap (space m.old).lists (space m.old).scratch) }
+    ensures size { SameSize (space m.old) (space m.new) }
 {
     add(m, i, j);
     add(m, j, i);
@@ -206,9 +210,9 @@ pub fn add_pair(m: &mut Memory, i: usize, j: usize)
 // The entry of column `j` at `p`, if it is a row.
 #[tactic(auto, unfolding(crate::specs::Model::paired_at))]
 pub fn pair_at(m: &mut Memory, j: usize, p: usize)
-    requires { j < m.old.n }
-    ensures memory { heap m.new.lists m.new.scratch ≡ paired_at m.old.n j p (heap m.old.lists m.old.scratch) }
-    ensures size { SameSize m.old m.new }
+    requires { j < (space m.old).n }
+    ensures memory { heap (space m.new).lists (space m.new).scratch ≡ paired_at (space m.old).n j p (heap (space m.old).lists (space m.old).scratch) }
+    ensures size { SameSize (space m.old) (space m.new) }
 {
     let i = m.entry(p);
     if i < m.columns() {
@@ -221,9 +225,9 @@ pub fn pair_at(m: &mut Memory, j: usize, p: usize)
 #[inline(always)]
 #[tactic(auto, using(plain::proofs::Turns::times_after), unfolding(crate::specs::Model::paired_part, plain::specs::Turns::times))]
 pub fn pair_part(m: &mut Memory, j: usize, from: usize, to: usize)
-    requires { j < m.old.n }
-    ensures memory { heap m.new.lists m.new.scratch ≡ paired_part m.old.n j from to (heap m.old.lists m.old.scratch) }
-    ensures size { SameSize m.old m.new }
+    requires { j < (space m.old).n }
+    ensures memory { heap (space m.new).lists (space m.new).scratch ≡ paired_part (space m.old).n j from to (heap (space m.old).lists (space m.old).scratch) }
+    ensures size { SameSize (space m.old) (space m.new) }
 {
     for p in from..to {
         pair_at(m, j, p);
@@ -243,10 +247,11 @@ fn pass_row(i: usize, k: usize, p: usize) -> usize
 // `meet_above` is this loop with another step: one function for both takes the step, and that step's model and law in its contract are longer than the loop.
 #[inline(always)]
 pub fn pair_above(m: &mut Memory, j: usize, k: usize, from: usize, to: usize) -> usize
-    requires { (j < m.old.n) × (k < m.old.n) × (from < 2 ^ 63) × (to < 2 ^ 63) }
-    ensures memory { heap m.new.lists m.new.scratch ≡ paired_part m.old.n j from (reach (rd m.old.n 16 m.old.scratch) k from to) (heap m.old.lists m.old.scratch) }
-    ensures next { result ≡ past (rd m.old.n 16 m.old.scratch) k (reach (rd m.old.n 16 m.old.scratch) k from to) to }
-    ensures size { SameSize m.old m.new }
+    requires { (j < (space m.old).n) × (k < (space m.old).n) × (from < 2 ^ 63) × (to < 2 ^ 63) }
+    ensures memory { heap (space m.new).lists (space m.new).scratch
+        ≡ paired_part (space m.old).n j from (reach (rd (space m.old).n 16 (space m.old).scratch) k from to) (heap (space m.old).lists (space m.old).scratch) }
+    ensures next { result ≡ past (rd (space m.old).n 16 (space m.old).scratch) k (reach (rd (space m.old).n 16 (space m.old).scratch) k from to) to }
+    ensures size { SameSize (space m.old) (space m.new) }
     ensures small { result < 2 ^ 63 }
 {
     for p in from..to {
@@ -263,9 +268,9 @@ pub fn pair_above(m: &mut Memory, j: usize, k: usize, from: usize, to: usize) ->
 #[tactic(auto, unfolding(crate::specs::Model::passed, crate::specs::Model::marked, crate::specs::Model::stop_of, crate::specs::Model::next_of))]
 #[inline(always)]
 pub fn pass(m: &mut Memory, j: usize, k: usize)
-    requires { (j < m.old.n) × (k < m.old.n) }
-    ensures memory { heap m.new.lists m.new.scratch ≡ passed m.old.n j k (heap m.old.lists m.old.scratch) }
-    ensures size { SameSize m.old m.new }
+    requires { (j < (space m.old).n) × (k < (space m.old).n) }
+    ensures memory { heap (space m.new).lists (space m.new).scratch ≡ passed (space m.old).n j k (heap (space m.old).lists (space m.old).scratch) }
+    ensures size { SameSize (space m.old) (space m.new) }
 {
     prove!(j < m.columns());
     let from = m.get(TP, j);
@@ -278,9 +283,9 @@ pub fn pass(m: &mut Memory, j: usize, k: usize)
 #[tactic(auto, unfolding(crate::specs::Model::met))]
 #[inline(always)]
 pub fn meet(m: &mut Memory, k: usize, j: usize)
-    requires { (k < m.old.n) × (j < m.old.n) }
-    ensures memory { heap m.new.lists m.new.scratch ≡ met m.old.n k j (heap m.old.lists m.old.scratch) }
-    ensures size { SameSize m.old m.new }
+    requires { (k < (space m.old).n) × (j < (space m.old).n) }
+    ensures memory { heap (space m.new).lists (space m.new).scratch ≡ met (space m.old).n k j (heap (space m.old).lists (space m.old).scratch) }
+    ensures size { SameSize (space m.old) (space m.new) }
 {
     add_pair(m, j, k);
     pass(m, j, k);
@@ -289,10 +294,11 @@ pub fn meet(m: &mut Memory, k: usize, j: usize)
 // The entries of column `k` from `from` on, before `to` and above the diagonal. The result is the next place.
 #[inline(always)]
 pub fn meet_above(m: &mut Memory, k: usize, from: usize, to: usize) -> usize
-    requires { (k < m.old.n) × (from < 2 ^ 63) × (to < 2 ^ 63) }
-    ensures memory { heap m.new.lists m.new.scratch ≡ met_part m.old.n k from (reach (rd m.old.n 16 m.old.scratch) k from to) (heap m.old.lists m.old.scratch) }
-    ensures next { result ≡ past (rd m.old.n 16 m.old.scratch) k (reach (rd m.old.n 16 m.old.scratch) k from to) to }
-    ensures size { SameSize m.old m.new }
+    requires { (k < (space m.old).n) × (from < 2 ^ 63) × (to < 2 ^ 63) }
+    ensures memory { heap (space m.new).lists (space m.new).scratch
+        ≡ met_part (space m.old).n k from (reach (rd (space m.old).n 16 (space m.old).scratch) k from to) (heap (space m.old).lists (space m.old).scratch) }
+    ensures next { result ≡ past (rd (space m.old).n 16 (space m.old).scratch) k (reach (rd (space m.old).n 16 (space m.old).scratch) k from to) to }
+    ensures size { SameSize (space m.old) (space m.new) }
     ensures small { result < 2 ^ 63 }
 {
     for p in from..to {
@@ -309,9 +315,9 @@ pub fn meet_above(m: &mut Memory, k: usize, from: usize, to: usize) -> usize
 #[inline(always)]
 #[tactic(auto, unfolding(crate::specs::Model::met_column, crate::specs::Model::marked, crate::specs::Model::stop_of, crate::specs::Model::next_of))]
 pub fn meet_column(m: &mut Memory, k: usize)
-    requires { k < m.old.n }
-    ensures memory { heap m.new.lists m.new.scratch ≡ met_column m.old.n k (heap m.old.lists m.old.scratch) }
-    ensures size { SameSize m.old m.new }
+    requires { k < (space m.old).n }
+    ensures memory { heap (space m.new).lists (space m.new).scratch ≡ met_column (space m.old).n k (heap (space m.old).lists (space m.old).scratch) }
+    ensures size { SameSize (space m.old) (space m.new) }
 {
     prove!(k < m.columns());
     let from = m.column(k);
@@ -323,8 +329,8 @@ pub fn meet_column(m: &mut Memory, k: usize)
 #[inline(always)]
 #[tactic(auto, using(plain::proofs::Turns::turns), unfolding(crate::specs::Model::met_columns))]
 pub fn meet_columns(m: &mut Memory)
-    ensures memory { heap m.new.lists m.new.scratch ≡ met_columns m.old.n (heap m.old.lists m.old.scratch) }
-    ensures size { SameSize m.old m.new }
+    ensures memory { heap (space m.new).lists (space m.new).scratch ≡ met_columns (space m.old).n (heap (space m.old).lists (space m.old).scratch) }
+    ensures size { SameSize (space m.old) (space m.new) }
 {
     for k in 0..m.columns() {
         meet_column(m, k);
@@ -335,9 +341,9 @@ pub fn meet_columns(m: &mut Memory)
 #[inline(always)]
 #[tactic(auto, unfolding(crate::specs::Model::met_rest))]
 pub fn meet_rest(m: &mut Memory, j: usize)
-    requires { j < m.old.n }
-    ensures memory { heap m.new.lists m.new.scratch ≡ met_rest m.old.n j (heap m.old.lists m.old.scratch) }
-    ensures size { SameSize m.old m.new }
+    requires { j < (space m.old).n }
+    ensures memory { heap (space m.new).lists (space m.new).scratch ≡ met_rest (space m.old).n j (heap (space m.old).lists (space m.old).scratch) }
+    ensures size { SameSize (space m.old) (space m.new) }
 {
     prove!(j < m.columns());
     let from = m.get(TP, j);
@@ -348,8 +354,8 @@ pub fn meet_rest(m: &mut Memory, j: usize)
 #[inline(always)]
 #[tactic(auto, using(plain::proofs::Turns::turns), unfolding(crate::specs::Model::met_rests))]
 pub fn meet_rests(m: &mut Memory)
-    ensures memory { heap m.new.lists m.new.scratch ≡ met_rests m.old.n (heap m.old.lists m.old.scratch) }
-    ensures size { SameSize m.old m.new }
+    ensures memory { heap (space m.new).lists (space m.new).scratch ≡ met_rests (space m.old).n (heap (space m.old).lists (space m.old).scratch) }
+    ensures size { SameSize (space m.old) (space m.new) }
 {
     for j in 0..m.columns() {
         meet_rest(m, j);
@@ -359,8 +365,8 @@ pub fn meet_rests(m: &mut Memory)
 #[inline(always)]
 #[tactic(auto, unfolding(crate::specs::Model::scanned))]
 pub fn scan(m: &mut Memory)
-    ensures memory { heap m.new.lists m.new.scratch ≡ scanned m.old.n (heap m.old.lists m.old.scratch) }
-    ensures size { SameSize m.old m.new }
+    ensures memory { heap (space m.new).lists (space m.new).scratch ≡ scanned (space m.old).n (heap (space m.old).lists (space m.old).scratch) }
+    ensures size { SameSize (space m.old) (space m.new) }
 {
     meet_columns(m);
     meet_rests(m);
@@ -370,7 +376,7 @@ pub fn scan(m: &mut Memory)
 
 #[tactic(auto, unfolding(crate::specs::Model::emptied_all, crate::specs::Model::emptied))]
 pub fn start_building(m: &mut Memory)
-    ensures { m.new ≡ record m.old { scratch = emptied_all m.old.n m.old.scratch } }
+    ensures { space m.new ≡ record (space m.old) { scratch = emptied_all (space m.old).n (space m.old).scratch } }
 {
     m.fill(SP, 0);
 }
@@ -379,8 +385,8 @@ pub fn start_building(m: &mut Memory)
 #[tactic(auto, unfolding(crate::specs::Model::placed_list))]
 pub fn place_list(m: &mut Memory, i: usize, free: usize) -> usize
     requires { free < 2 ^ 63 }
-    ensures memory { spot m.new.scratch result ≡ placed_list m.old.n i (spot m.old.scratch free) }
-    ensures lists { SameLists m.old m.new }
+    ensures memory { spot (space m.new).scratch result ≡ placed_list (space m.old).n i (spot (space m.old).scratch free) }
+    ensures lists { SameLists (space m.old) (space m.new) }
     ensures small { result < 2 ^ 63 }
 {
     let count = m.rd(SP, i);
@@ -392,8 +398,8 @@ pub fn place_list(m: &mut Memory, i: usize, free: usize) -> usize
 
 #[tactic(auto, using(plain::proofs::Turns::turns), unfolding(crate::specs::Model::placed_lists))]
 pub fn place_lists(m: &mut Memory) -> usize
-    ensures memory { spot m.new.scratch result ≡ placed_lists m.old.n m.old.scratch }
-    ensures lists { SameLists m.old m.new }
+    ensures memory { spot (space m.new).scratch result ≡ placed_lists (space m.old).n (space m.old).scratch }
+    ensures lists { SameLists (space m.old) (space m.new) }
     ensures small { result < 2 ^ 63 }
 {
     let mut free = 0;
@@ -406,9 +412,9 @@ pub fn place_lists(m: &mut Memory) -> usize
 // A+A' of the columns in the scratch, packed from the start of the list space; the result is the next free place.
 #[tactic(auto, unfolding(crate::specs::Model::built, crate::specs::Model::placed, crate::specs::Model::counted, crate::specs::Model::built_free))]
 pub fn build(m: &mut Memory) -> usize
-    ensures memory { heap m.new.lists m.new.scratch ≡ built m.old.n m.old.lists m.old.scratch }
-    ensures free { result ≡ built_free m.old.n m.old.lists m.old.scratch }
-    ensures size { SameSize m.old m.new }
+    ensures memory { heap (space m.new).lists (space m.new).scratch ≡ built (space m.old).n (space m.old).lists (space m.old).scratch }
+    ensures free { result ≡ built_free (space m.old).n (space m.old).lists (space m.old).scratch }
+    ensures size { SameSize (space m.old) (space m.new) }
     ensures small { result < 2 ^ 63 }
 {
     start_building(m);
@@ -420,9 +426,11 @@ pub fn build(m: &mut Memory) -> usize
 
 // The pattern, jumbled or not, as the lists of A+A'.
 pub fn take_pattern(m: &mut Memory, pattern: Columns, jumbled: bool) -> usize
-    ensures memory { heap m.new.lists m.new.scratch ≡ built m.old.n m.old.lists (tidied m.old.n pattern.entry.pointers.now pattern.entry.rows.now jumbled m.old.scratch) }
-    ensures free { result ≡ built_free m.old.n m.old.lists (tidied m.old.n pattern.entry.pointers.now pattern.entry.rows.now jumbled m.old.scratch) }
-    ensures size { SameSize m.old m.new }
+    ensures memory { heap (space m.new).lists (space m.new).scratch
+        ≡ built (space m.old).n (space m.old).lists (tidied (space m.old).n pattern.entry.pointers.now pattern.entry.rows.now jumbled (space m.old).scratch) }
+    ensures free { result ≡ built_free (space m.old).n (space m.old).lists
+        (tidied (space m.old).n pattern.entry.pointers.now pattern.entry.rows.now jumbled (space m.old).scratch) }
+    ensures size { SameSize (space m.old) (space m.new) }
     ensures small { result < 2 ^ 63 }
 {
     tidy(m, pattern, jumbled);

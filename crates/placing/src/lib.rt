@@ -3,7 +3,7 @@
 #![tactic(auto)]
 
 ghost use Rattle.std.specs.Prelude.{◌≡◌, ◌<◌, ◌≤◌, ◌^◌};
-ghost use Rattle.cells.specs.Space.{SameLists, SameSize};
+ghost use Rattle.cells.specs.Space.{space, SameLists, SameSize};
 ghost use Rattle.cells.specs.Layout.{NV};
 ghost use Rattle.packed.specs.Gather.{cut, kept_part};
 ghost use Rattle.placing.specs.Model.{degree_of, spot, placed_row, placed_all, sealed, marked, finished};
@@ -39,9 +39,9 @@ fn restore_row(
     own: usize,
     least: usize,
 ) -> usize
-    requires { (size < 2 ^ 63) × (left < m.old.n) × (i < m.old.n) × (own < 2 ^ 63) × (least < 2 ^ 63) }
-    ensures placed { spot m.new.scratch result ≡ placed_row m.old.n size left i own (spot m.old.scratch least) }
-    ensures lists { SameLists m.old m.new }
+    requires { (size < 2 ^ 63) × (left < (space m.old).n) × (i < (space m.old).n) × (own < 2 ^ 63) × (least < 2 ^ 63) }
+    ensures placed { spot (space m.new).scratch result ≡ placed_row (space m.old).n size left i own (spot (space m.old).scratch least) }
+    ensures lists { SameLists (space m.old) (space m.new) }
     ensures small { result < 2 ^ 63 }
 {
     let d = new_degree(m.get(Field::Degree, i), size, left, own);
@@ -52,10 +52,11 @@ fn restore_row(
 
 // The survivors among the rows of the part: each is placed, and they alone are kept there. A merged row has no weight, and is no survivor.
 pub fn restore(m: &mut Memory, size: usize, left: usize, part: Part, start: usize) -> Restored
-    requires { (size < 2 ^ 63) × (left < m.old.n) × (start < 2 ^ 63) }
-    ensures placed { spot m.new.scratch result.least ≡ placed_all m.old.n size left m.old.lists part.from part.len (spot m.old.scratch start) }
-    ensures kept { cut m.new.lists result.count ≡ kept_part m.old.n NV m.old.scratch part.from part.len m.old.lists }
-    ensures same { SameSize m.old m.new }
+    requires { (size < 2 ^ 63) × (left < (space m.old).n) × (start < 2 ^ 63) }
+    ensures placed { spot (space m.new).scratch result.least
+        ≡ placed_all (space m.old).n size left (space m.old).lists part.from part.len (spot (space m.old).scratch start) }
+    ensures kept { cut (space m.new).lists result.count ≡ kept_part (space m.old).n NV (space m.old).scratch part.from part.len (space m.old).lists }
+    ensures same { SameSize (space m.old) (space m.new) }
     ensures small { (result.count < 2 ^ 63) × (result.least < 2 ^ 63) }
 {
     let mut r = Restored {
@@ -77,8 +78,8 @@ pub fn restore(m: &mut Memory, size: usize, left: usize, part: Part, start: usiz
 // Row `p` as an element of `count` rows, whose weight is `size`.
 #[tactic(auto, unfolding(crate::specs::Model::sealed))]
 fn seal_element(m: &mut Memory, p: usize, size: usize, count: usize)
-    requires { (p < m.old.n) × (size < 2 ^ 63) × (count < 2 ^ 63) }
-    ensures { m.new ≡ record m.old { scratch = sealed m.old.n m.old.scratch p size count } }
+    requires { (p < (space m.old).n) × (size < 2 ^ 63) × (count < 2 ^ 63) }
+    ensures { space m.new ≡ record (space m.old) { scratch = sealed (space m.old).n (space m.old).scratch p size count } }
 {
     let all = cells::plus(m.get(Field::Nv, p), size);
     m.set(Field::Len, p, count);
@@ -89,8 +90,8 @@ fn seal_element(m: &mut Memory, p: usize, size: usize, count: usize)
 // An element that has rows is there; one without is no more, and has no parent.
 #[tactic(auto, unfolding(crate::specs::Model::marked))]
 fn mark_element(m: &mut Memory, p: usize, count: usize)
-    requires { p < m.old.n }
-    ensures { m.new ≡ record m.old { scratch = marked m.old.n m.old.scratch p count } }
+    requires { p < (space m.old).n }
+    ensures { space m.new ≡ record (space m.old) { scratch = marked (space m.old).n (space m.old).scratch p count } }
 {
     if 0 < count {
         m.set(Field::W, p, 1);
@@ -103,8 +104,8 @@ fn mark_element(m: &mut Memory, p: usize, count: usize)
 // Row `p` becomes the element of `count` rows, whose weight is `size`.
 #[tactic(auto, unfolding(crate::specs::Model::finished))]
 pub fn finish_element(m: &mut Memory, p: usize, size: usize, count: usize)
-    requires { (p < m.old.n) × (size < 2 ^ 63) × (count < 2 ^ 63) }
-    ensures { m.new ≡ record m.old { scratch = finished m.old.n m.old.scratch p size count } }
+    requires { (p < (space m.old).n) × (size < 2 ^ 63) × (count < 2 ^ 63) }
+    ensures { space m.new ≡ record (space m.old) { scratch = finished (space m.old).n (space m.old).scratch p size count } }
 {
     seal_element(m, p, size, count);
     mark_element(m, p, count);

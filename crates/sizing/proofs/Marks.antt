@@ -14,7 +14,6 @@ use Rattle.cells.proofs.Rows.{clipped_part}
 use Rattle.cells.proofs.Slices.{same?, split}
 use Rattle.cells.specs.Layout.{DEGREE, ELEN, NV, PE, W}
 use Rattle.cells.specs.Rows.{clipped}
-use Rattle.cells.specs.Space.{Space}
 use Rattle.cells.specs.View.{Room, at, rd, up}
 use Rattle.sizing.specs.Counters.{begun, counted, lessened, passing}
 use Rattle.sizing.specs.Sizes.{Kept, Listed}
@@ -52,11 +51,9 @@ module _ (n : ℕ) (P : List ℤ → Type 0) (put : (s : List ℤ) (e v : ℕ) �
     marked_turns from k s h = times_keeps (λ _ t. P t) (λ t. sized_row n l flag (from + t)) k (λ j t _ g. marked_of (at l (from + j)) t g) k s (omega arith) h
 
 -- so does a weight: the one that a turn adds is that of the memory before the loop
-pub weight_stays : (m x : Space) (flag from k q : ℕ) → x ≡ record m { scratch = times k (λ t. sized_row m.n m.lists flag (from + t)) m.scratch }
-    → rd x.n NV x.scratch (at x.lists q) ≡ rd m.n NV m.scratch (at m.lists q)
-weight_stays m x flag from k q e =
-    let i = at m.lists q in
-    rw e (marked_turns m.n (λ t. rd m.n NV t i ≡ rd m.n NV m.scratch i) (λ t e v h. rd_up_field m.n W NV t e v i refl ∙ h) m.lists flag from k m.scratch refl)
+pub weight_stays : (n : ℕ) (l s t : List ℤ) (flag from k i : ℕ) → t ≡ times k (λ j. sized_row n l flag (from + j)) s → rd n NV t i ≡ rd n NV s i
+weight_stays n l s t flag from k i e =
+    rw e (marked_turns n (λ t. rd n NV t i ≡ rd n NV s i) (λ t e v h. rd_up_field n W NV t e v i refl ∙ h) l flag from k s refl)
 
 module _ (n : ℕ) where
   pub kept_none : (s : List ℤ) → Room n s → Kept n s s

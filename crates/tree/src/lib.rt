@@ -6,7 +6,7 @@
 #![tactic(auto)]
 
 ghost use Rattle.std.specs.Prelude.{◌≡◌, ◌<◌, ◌^◌};
-ghost use Rattle.cells.specs.Space.{SameLists};
+ghost use Rattle.cells.specs.Space.{space, SameLists};
 ghost use Rattle.cells.specs.View.{up};
 ghost use Rattle.tree.specs.Class.{class_number};
 ghost use Rattle.tree.specs.Final.{Outputs};
@@ -19,7 +19,7 @@ use cells::{Field, Memory};
 // What row `i` hangs under: its parent, or `n`.
 #[tactic(auto, unfolding(crate::specs::Model::above))]
 fn above(m: &Memory, i: usize) -> usize
-    ensures value { result ≡ above m.now.n m.now.scratch i }
+    ensures value { result ≡ above (space m.now).n (space m.now).scratch i }
     ensures small { result < 2 ^ 63 }
 {
     m.parent(i).unwrap_or(m.columns())
@@ -28,7 +28,7 @@ fn above(m: &Memory, i: usize) -> usize
 // A row that was merged into a merged row gets that row's parent.
 #[tactic(auto, unfolding(crate::specs::Model::owned, crate::specs::Model::above))]
 fn own_one(m: &mut Memory, v: usize)
-    ensures { m.new ≡ record m.old { scratch = owned m.old.n v m.old.scratch } }
+    ensures { space m.new ≡ record (space m.old) { scratch = owned (space m.old).n v (space m.old).scratch } }
 {
     let p = above(m, v);
     if m.rd(Field::Nv, p) == 0 {
@@ -40,7 +40,7 @@ fn own_one(m: &mut Memory, v: usize)
 // The rows of the log, the last first: what a row was merged into has found its element before it.
 #[tactic(auto, using(plain::proofs::Turns::turns_back), unfolding(crate::specs::Model::owned_all))]
 fn own_all(m: &mut Memory, count: usize)
-    ensures { m.new ≡ record m.old { scratch = owned_all m.old.n count m.old.scratch } }
+    ensures { space m.new ≡ record (space m.old) { scratch = owned_all (space m.old).n count (space m.old).scratch } }
 {
     for t in (0..count).rev() {
         let v = m.rd(Field::Merges, t);
@@ -53,7 +53,7 @@ fn own_all(m: &mut Memory, count: usize)
 // Nothing hangs under `j`.
 #[tactic(auto, unfolding(crate::specs::Model::blank_one))]
 fn blank_one(m: &mut Memory, j: usize)
-    ensures { m.new ≡ record m.old { scratch = blank_one m.old.n j m.old.scratch } }
+    ensures { space m.new ≡ record (space m.old) { scratch = blank_one (space m.old).n j (space m.old).scratch } }
 {
     let n = m.columns();
     m.put_column(j, n);
@@ -62,7 +62,7 @@ fn blank_one(m: &mut Memory, j: usize)
 
 #[tactic(auto, using(plain::proofs::Turns::turns), unfolding(crate::specs::Model::blanked))]
 fn blank(m: &mut Memory)
-    ensures { m.new ≡ record m.old { scratch = blanked m.old.n m.old.scratch } }
+    ensures { space m.new ≡ record (space m.old) { scratch = blanked (space m.old).n (space m.old).scratch } }
 {
     let n = m.columns();
     m.put_column(n, n);
@@ -74,7 +74,7 @@ fn blank(m: &mut Memory)
 // Is `j` not smaller than `b`?
 #[tactic(auto, unfolding(crate::specs::Model::as_large))]
 fn as_large(m: &Memory, b: usize, j: usize) -> bool
-    ensures { result ≡ as_large m.now.n m.now.scratch b j }
+    ensures { result ≡ as_large (space m.now).n (space m.now).scratch b j }
 {
     m.rd(Field::Elen, b) <= m.rd(Field::Elen, j)
 }
@@ -83,7 +83,7 @@ fn as_large(m: &Memory, b: usize, j: usize) -> bool
 #[tactic(auto, unfolding(crate::specs::Model::measured_under))]
 fn measure_under(m: &mut Memory, p: usize, j: usize)
     requires { j < 2 ^ 63 }
-    ensures { m.new ≡ record m.old { scratch = measured_under m.old.n p j m.old.scratch } }
+    ensures { space m.new ≡ record (space m.old) { scratch = measured_under (space m.old).n p j (space m.old).scratch } }
 {
     let b = m.rd(cells::LARGEST, p);
     if as_large(m, b, j) {
@@ -95,7 +95,7 @@ fn measure_under(m: &mut Memory, p: usize, j: usize)
 #[tactic(auto, unfolding(crate::specs::Model::measured_one))]
 fn measure_one(m: &mut Memory, j: usize)
     requires { j < 2 ^ 63 }
-    ensures { m.new ≡ record m.old { scratch = measured_one m.old.n j m.old.scratch } }
+    ensures { space m.new ≡ record (space m.old) { scratch = measured_one (space m.old).n j (space m.old).scratch } }
 {
     if 0 < m.rd(Field::Nv, j) {
         let p = above(m, j);
@@ -106,7 +106,7 @@ fn measure_one(m: &mut Memory, j: usize)
 // The last of the largest children, of each element.
 #[tactic(auto, using(plain::proofs::Turns::turns), unfolding(crate::specs::Model::measured))]
 fn measure(m: &mut Memory)
-    ensures { m.new ≡ record m.old { scratch = measured m.old.n m.old.scratch } }
+    ensures { space m.new ≡ record (space m.old) { scratch = measured (space m.old).n (space m.old).scratch } }
 {
     for j in 0..m.columns() {
         measure_one(m, j);
@@ -129,7 +129,7 @@ enum Class {
 // Is `j` the largest child of `p`?
 #[tactic(auto, unfolding(crate::specs::Model::largest_of))]
 fn largest_of(m: &Memory, p: usize, j: usize) -> bool
-    ensures { result ≡ largest_of m.now.n m.now.scratch p j }
+    ensures { result ≡ largest_of (space m.now).n (space m.now).scratch p j }
 {
     p < m.columns() && m.get(cells::LARGEST, p) == j
 }
@@ -137,7 +137,7 @@ fn largest_of(m: &Memory, p: usize, j: usize) -> bool
 // The class of `j`.
 #[tactic(auto, unfolding(crate::specs::Model::class_of))]
 fn class_of(m: &Memory, j: usize) -> Class
-    ensures { class_number result ≡ class_of m.now.n m.now.scratch j }
+    ensures { class_number result ≡ class_of (space m.now).n (space m.now).scratch j }
 {
     if m.rd(Field::Nv, j) == 0 {
         Class::Light
@@ -152,7 +152,7 @@ fn class_of(m: &Memory, j: usize) -> Class
 #[tactic(auto, unfolding(crate::specs::Model::listed))]
 fn list_under(m: &mut Memory, p: usize, j: usize)
     requires { j < 2 ^ 63 }
-    ensures { m.new ≡ record m.old { scratch = listed m.old.n p j m.old.scratch } }
+    ensures { space m.new ≡ record (space m.old) { scratch = listed (space m.old).n p j (space m.old).scratch } }
 {
     let first = m.column(p);
     m.up(cells::SIBLING, j, first);
@@ -163,7 +163,7 @@ fn list_under(m: &mut Memory, p: usize, j: usize)
 #[tactic(auto, unfolding(crate::specs::Model::threaded_one))]
 fn thread_one(m: &mut Memory, class: Class, j: usize)
     requires { j < 2 ^ 63 }
-    ensures { m.new ≡ record m.old { scratch = threaded_one m.old.n (class_number class) j m.old.scratch } }
+    ensures { space m.new ≡ record (space m.old) { scratch = threaded_one (space m.old).n (class_number class) j (space m.old).scratch } }
 {
     if class_of(m, j) == class {
         let p = above(m, j);
@@ -174,7 +174,7 @@ fn thread_one(m: &mut Memory, class: Class, j: usize)
 // The rows of the class, the last first.
 #[tactic(auto, using(plain::proofs::Turns::turns_back), unfolding(crate::specs::Model::threaded))]
 fn thread(m: &mut Memory, class: Class)
-    ensures { m.new ≡ record m.old { scratch = threaded m.old.n (class_number class) m.old.scratch } }
+    ensures { space m.new ≡ record (space m.old) { scratch = threaded (space m.old).n (class_number class) (space m.old).scratch } }
 {
     for j in (0..m.columns()).rev() {
         thread_one(m, class, j);
@@ -184,7 +184,7 @@ fn thread(m: &mut Memory, class: Class)
 // Under each: the other children, the largest, merged rows. Under `n`: the roots, the dense rows.
 #[tactic(auto, unfolding(crate::specs::Model::prepared))]
 fn prepare(m: &mut Memory)
-    ensures { m.new ≡ record m.old { scratch = prepared m.old.n m.old.scratch } }
+    ensures { space m.new ≡ record (space m.old) { scratch = prepared (space m.old).n (space m.old).scratch } }
 {
     blank(m);
     measure(m);
@@ -220,8 +220,8 @@ fn place(permutation: &mut [i32], inverse: &mut [i32], n: usize, k: usize, v: us
 #[tactic(auto, unfolding(crate::specs::Model::deeper))]
 fn enter(m: &mut Memory, w: Walk) -> Walk
     requires { w.row < 2 ^ 63 }
-    ensures pushed { m.new ≡ record m.old { scratch = up m.old.n 10 m.old.scratch w.depth w.row } }
-    ensures under { result ≡ deeper m.old.n m.old.scratch w }
+    ensures pushed { space m.new ≡ record (space m.old) { scratch = up (space m.old).n 10 (space m.old).scratch w.depth w.row } }
+    ensures under { result ≡ deeper (space m.old).n (space m.old).scratch w }
 {
     let first = m.column(w.row);
     m.up(cells::STACK, w.depth, w.row);
@@ -235,7 +235,7 @@ fn enter(m: &mut Memory, w: Walk) -> Walk
 // The row that the stack has on top.
 #[tactic(auto, unfolding(crate::specs::Model::top))]
 fn top(m: &Memory, w: Walk) -> usize
-    ensures value { result ≡ top m.now.n m.now.scratch w }
+    ensures value { result ≡ top (space m.now).n (space m.now).scratch w }
     ensures small { result < 2 ^ 63 }
 {
     m.rd(cells::STACK, w.depth.saturating_sub(1))
@@ -244,8 +244,8 @@ fn top(m: &Memory, w: Walk) -> usize
 // It leaves the stack, and the one behind it comes next.
 #[tactic(auto, unfolding(crate::specs::Model::higher))]
 fn leave(m: &Memory, w: Walk, v: usize) -> Walk
-    requires { v ≡ top m.now.n m.now.scratch w }
-    ensures { result ≡ higher m.now.n m.now.scratch w }
+    requires { v ≡ top (space m.now).n (space m.now).scratch w }
+    ensures { result ≡ higher (space m.now).n (space m.now).scratch w }
 {
     Walk {
         row: m.rd(cells::SIBLING, v),
@@ -257,9 +257,10 @@ fn leave(m: &Memory, w: Walk, v: usize) -> Walk
 // One step: down to what hangs under a row, or on from a row that has its place now.
 #[tactic(auto, unfolding(crate::specs::Model::stepped, crate::specs::Model::entered, crate::specs::Model::left_behind))]
 fn step(m: &mut Memory, permutation: &mut [i32], inverse: &mut [i32], w: Walk) -> Walk
-    requires { m.old.n < 2 ^ 31 }
-    ensures stepped { tour m.new.scratch permutation.new inverse.new result ≡ stepped m.old.n (tour m.old.scratch permutation.old inverse.old w) }
-    ensures lists { SameLists m.old m.new }
+    requires { (space m.old).n < 2 ^ 31 }
+    ensures stepped { tour (space m.new).scratch permutation.new inverse.new result
+        ≡ stepped (space m.old).n (tour (space m.old).scratch permutation.old inverse.old w) }
+    ensures lists { SameLists (space m.old) (space m.new) }
 {
     let n = m.columns();
     if w.row < n {
@@ -276,9 +277,9 @@ fn step(m: &mut Memory, permutation: &mut [i32], inverse: &mut [i32], w: Walk) -
 // From the first that hangs under `n`: each row is entered once and left once.
 #[tactic(auto, using(plain::proofs::Turns::turns), unfolding(crate::specs::Model::walked))]
 fn walk_all(m: &mut Memory, permutation: &mut [i32], inverse: &mut [i32])
-    requires { m.old.n < 2 ^ 31 }
-    ensures written { sheets permutation.new inverse.new ≡ walked m.old.n m.old.scratch (sheets permutation.old inverse.old) }
-    ensures lists { SameLists m.old m.new }
+    requires { (space m.old).n < 2 ^ 31 }
+    ensures written { sheets permutation.new inverse.new ≡ walked (space m.old).n (space m.old).scratch (sheets permutation.old inverse.old) }
+    ensures lists { SameLists (space m.old) (space m.new) }
 {
     let n = m.columns();
     let mut w = Walk {
@@ -294,9 +295,9 @@ fn walk_all(m: &mut Memory, permutation: &mut [i32], inverse: &mut [i32])
 // The permutation and its inverse of what the elimination left, its log of merges being `count` long.
 #[tactic(auto, using(crate::proofs::Written::outputs))]
 pub fn order_tree(m: &mut Memory, count: usize, permutation: &mut [i32], inverse: &mut [i32])
-    requires { m.old.n < 2 ^ 31 }
-    ensures outputs { Outputs m.old.n count m.old.scratch permutation.old inverse.old permutation.new inverse.new }
-    ensures lists { SameLists m.old m.new }
+    requires { (space m.old).n < 2 ^ 31 }
+    ensures outputs { Outputs (space m.old).n count (space m.old).scratch permutation.old inverse.old permutation.new inverse.new }
+    ensures lists { SameLists (space m.old) (space m.new) }
 {
     own_all(m, count);
     prepare(m);

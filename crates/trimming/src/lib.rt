@@ -4,8 +4,8 @@
 
 ghost use Rattle.std.specs.Prelude.{◌≡◌, ◌+◌, ◌^◌, ◌<◌, ◌≤◌, ◌&&◌, length, ◌==◌};
 ghost use Rattle.cells.specs.Rows.{Rows};
-ghost use Rattle.cells.specs.Space.{SameSize};
-ghost use Rattle.cells.specs.View.{wr};
+ghost use Rattle.cells.specs.Space.{space, SameSize};
+ghost use Rattle.cells.specs.View.{Room, wr};
 ghost use Rattle.trimming.specs.Model.{Grown, counted, keeping, kept_live, kept_element, kept_elements, kept_variable, kept_variables, kept_all, took_weight, buried, massed, turned, sized, lowered, key_of, keyed, relisted, settled, trimming, updated, updated_at, updated_all};
 
 use cells::{Field, Memory, Part};
@@ -46,25 +46,12 @@ pub fn count(x: usize, size: usize, k: Kept) -> Kept
     }
 }
 
-// Row `x` goes to the cell behind what is kept, and is counted: over the list space alone.
+// Row `x` goes to the cell behind what is kept, and is counted.
 pub fn keep_entry(lists: &mut [i64], n: usize, x: usize, size: usize, k: Kept) -> Kept
     requires { Rows n lists.old × (x < n) × (x < 2 ^ 63) × (k.end < length lists.old) }
     ensures { (lists.new ≡ wr lists.old k.end x) × Rows n lists.new × (result ≡ counted x size k) × Grown k result }
 {
     cells::put_row(lists, n, k.end, x);
-    count(x, size, k)
-}
-
-// The same within a memory.
-fn keep_row(m: &mut Memory, x: usize, size: usize, k: Kept) -> Kept
-    requires { (x < m.old.n) × (k.end < length m.old.lists) }
-    ensures put { m.new ≡ record m.old { lists = wr m.old.lists k.end x } }
-    ensures size { length m.new.lists ≡ length m.old.lists }
-    ensures counted { result ≡ counted x size k }
-    ensures grown { Grown k result }
-{
-    prove!(k.end < m.size());
-    m.put_row(k.end, x);
     count(x, size, k)
 }
 
@@ -78,29 +65,31 @@ impl Rule {
 }
 
 // Element `e` of mark `w`, which is there: kept, or dropped.
-#[tactic(auto, unfolding(crate::specs::Model::kept_live, crate::specs::Model::kept_entry))]
+#[tactic(auto, unfolding(cells::specs::Space::space, crate::specs::Model::kept_live, crate::specs::Model::kept_entry))]
 pub fn keep_live(m: &mut Memory, r: Rule, e: usize, w: usize, k: Kept) -> Kept
-    requires { (e < m.old.n) × (k.end < length m.old.lists) }
-    ensures kept { keeping m.new.lists m.new.scratch result ≡ kept_live m.old.n r.me r.flag r.aggressive e w (keeping m.old.lists m.old.scratch k) }
-    ensures size { SameSize m.old m.new }
+    requires { (e < (space m.old).n) × (k.end < length (space m.old).lists) }
+    ensures kept { keeping (space m.new).lists (space m.new).scratch result
+        ≡ kept_live (space m.old).n r.me r.flag r.aggressive e w (keeping (space m.old).lists (space m.old).scratch k) }
+    ensures size { SameSize (space m.old) (space m.new) }
     ensures grown { Grown k result }
 {
     if r.flag < w {
-        keep_row(m, e, w - r.flag, k)
+        keep_entry(m.rows, m.columns, e, w - r.flag, k)
     } else if r.swallows(w) {
-        packed::absorb(m, r.me, e);
+        packed::absorb(m.fields, m.columns, r.me, e);
         k
     } else {
-        keep_row(m, e, 0, k)
+        keep_entry(m.rows, m.columns, e, 0, k)
     }
 }
 
 // The element in cell `q`.
 #[tactic(auto, unfolding(crate::specs::Model::kept_element))]
 pub fn keep_element(m: &mut Memory, r: Rule, q: usize, k: Kept) -> Kept
-    requires { (k.end ≤ q) × (q < length m.old.lists) }
-    ensures kept { keeping m.new.lists m.new.scratch result ≡ kept_element m.old.n r.me r.flag r.aggressive q (keeping m.old.lists m.old.scratch k) }
-    ensures size { SameSize m.old m.new }
+    requires { (k.end ≤ q) × (q < length (space m.old).lists) }
+    ensures kept { keeping (space m.new).lists (space m.new).scratch result
+        ≡ kept_element (space m.old).n r.me r.flag r.aggressive q (keeping (space m.old).lists (space m.old).scratch k) }
+    ensures size { SameSize (space m.old) (space m.new) }
     ensures grown { Grown k result }
 {
     let e = m.row(q);
@@ -112,10 +101,10 @@ pub fn keep_element(m: &mut Memory, r: Rule, q: usize, k: Kept) -> Kept
 // By number, as every loop over a part here: its cells are read while others are written.
 #[tactic(auto, using(plain::proofs::Turns::begin, plain::proofs::Turns::finish), unfolding(crate::specs::Model::kept_elements))]
 pub fn keep_elements(m: &mut Memory, r: Rule, part: Part) -> Kept
-    requires { part.from + part.len ≤ length m.old.lists }
-    ensures kept { keeping m.new.lists m.new.scratch result
-        ≡ kept_elements m.old.n r.me r.flag r.aggressive part.from part.len m.old.lists m.old.scratch }
-    ensures size { SameSize m.old m.new }
+    requires { part.from + part.len ≤ length (space m.old).lists }
+    ensures kept { keeping (space m.new).lists (space m.new).scratch result
+        ≡ kept_elements (space m.old).n r.me r.flag r.aggressive part.from part.len (space m.old).lists (space m.old).scratch }
+    ensures size { SameSize (space m.old) (space m.new) }
     ensures within { (part.from ≤ result.end) × (result.end ≤ part.from + part.len) }
 {
     let mut k = Kept {
@@ -133,25 +122,27 @@ pub fn keep_elements(m: &mut Memory, r: Rule, part: Part) -> Kept
 
 // The variable in cell `q`: kept if it is wanted.
 #[tactic(auto, unfolding(crate::specs::Model::kept_variable, crate::specs::Model::kept_entry))]
-pub fn keep_variable(m: &mut Memory, q: usize, k: Kept) -> Kept
-    requires { (k.end ≤ q) × (q < length m.old.lists) }
-    ensures kept { keeping m.new.lists m.new.scratch result ≡ kept_variable m.old.n q (keeping m.old.lists m.old.scratch k) }
-    ensures size { SameSize m.old m.new }
-    ensures scratch { m.new.scratch ≡ m.old.scratch }
+pub fn keep_variable(lists: &mut [i64], s: &[i64], n: usize, q: usize, k: Kept) -> Kept
+    requires { Room n s.now × Rows n lists.old × (k.end ≤ q) × (q < length lists.old) }
+    ensures kept { keeping lists.new s.now result ≡ kept_variable n q (keeping lists.old s.now k) }
+    ensures rows { Rows n lists.new }
     ensures grown { Grown k result }
 {
-    let v = m.row(q);
-    let w = m.get(Field::Want, v);
-    if 0 < w { keep_row(m, v, w, k) } else { k }
+    let v = cells::row(lists, n, q);
+    let w = cells::get(s, n, Field::Want, v);
+    if 0 < w {
+        keep_entry(lists, n, v, w, k)
+    } else {
+        k
+    }
 }
 
 // The variables in a part of the lists: those that are kept move to behind what is kept of the elements.
 #[tactic(auto, using(plain::proofs::Turns::begin, plain::proofs::Turns::finish), unfolding(crate::specs::Model::kept_variables))]
-pub fn keep_variables(m: &mut Memory, part: Part, start: Kept) -> Kept
-    requires { (start.end ≤ part.from) × (part.from + part.len ≤ length m.old.lists) }
-    ensures kept { keeping m.new.lists m.new.scratch result ≡ kept_variables m.old.n part.from part.len (keeping m.old.lists m.old.scratch start) }
-    ensures size { SameSize m.old m.new }
-    ensures scratch { m.new.scratch ≡ m.old.scratch }
+pub fn keep_variables(lists: &mut [i64], s: &[i64], n: usize, part: Part, start: Kept) -> Kept
+    requires { Room n s.now × Rows n lists.old × (start.end ≤ part.from) × (part.from + part.len ≤ length lists.old) }
+    ensures kept { keeping lists.new s.now result ≡ kept_variables n part.from part.len (keeping lists.old s.now start) }
+    ensures rows { Rows n lists.new }
     ensures elements { result.elements ≡ start.end }
     ensures within { (start.end ≤ result.end) × (result.end ≤ part.from + part.len) }
 {
@@ -159,20 +150,20 @@ pub fn keep_variables(m: &mut Memory, part: Part, start: Kept) -> Kept
         elements: start.end,
         ..start
     };
-    prove!(part.len <= m.size() - part.from);
+    prove!(part.len <= lists.len() - part.from);
     for t in 0..part.len {
-        k = keep_variable(m, part.from + t, k);
+        k = keep_variable(lists, s, n, part.from + t, k);
     }
     k
 }
 
 // What is kept of the list in a part of the lists, whose first `elen` cells are elements.
-#[tactic(auto, unfolding(crate::specs::Model::kept_all))]
+#[tactic(auto, unfolding(cells::specs::Space::space, crate::specs::Model::kept_all))]
 pub fn keep_all(m: &mut Memory, r: Rule, part: Part, elen: usize) -> Kept
-    requires { (elen ≤ part.len) × (part.from + part.len ≤ length m.old.lists) }
-    ensures kept { keeping m.new.lists m.new.scratch result
-        ≡ kept_all m.old.n r.me r.flag r.aggressive part.from elen part.len m.old.lists m.old.scratch }
-    ensures size { SameSize m.old m.new }
+    requires { (elen ≤ part.len) × (part.from + part.len ≤ length (space m.old).lists) }
+    ensures kept { keeping (space m.new).lists (space m.new).scratch result
+        ≡ kept_all (space m.old).n r.me r.flag r.aggressive part.from elen part.len (space m.old).lists (space m.old).scratch }
+    ensures size { SameSize (space m.old) (space m.new) }
     ensures within { (part.from ≤ result.elements) × (result.elements ≤ result.end) }
 {
     prove!(part.len <= m.size() - part.from);
@@ -182,7 +173,8 @@ pub fn keep_all(m: &mut Memory, r: Rule, part: Part, elen: usize) -> Kept
         from: part.from + elen,
         len: part.len - elen,
     };
-    keep_variables(m, variables, first)
+    let fields = &mut *m.fields;
+    keep_variables(m.rows, fields, m.columns, variables, first)
 }
 
 // ---- nothing is kept
@@ -209,9 +201,10 @@ impl Model for Merged {
 // Row `i` is eliminated with the pivot.
 #[tactic(auto, unfolding(packed::specs::Model::joined_row, crate::specs::Model::massed, crate::specs::Model::buried, crate::specs::Model::took_weight))]
 pub fn mass_eliminate(m: &mut Memory, me: usize, i: usize, t: Merged) -> Merged
-    requires { (me < m.old.n) × (i < m.old.n) }
-    ensures massed { result ≡ massed m.old.n i m.old.scratch t }
-    ensures buried { m.new ≡ record m.old { scratch = buried m.old.n me i t.made (took_weight m.old.n me i m.old.scratch) } }
+    requires { (me < (space m.old).n) × (i < (space m.old).n) }
+    ensures massed { result ≡ massed (space m.old).n i (space m.old).scratch t }
+    ensures buried { space m.new
+        ≡ record (space m.old) { scratch = buried (space m.old).n me i t.made (took_weight (space m.old).n me i (space m.old).scratch) } }
 {
     let w = packed::join(m, me, i, t.made);
     Merged {
@@ -222,7 +215,7 @@ pub fn mass_eliminate(m: &mut Memory, me: usize, i: usize, t: Merged) -> Merged
 
 // ---- the list of a row that stays
 
-// Of the numbers from `p` to `end` the first goes to place `elements`, the one there to the end, and `me` to the front: over the list space alone.
+// Of the numbers from `p` to `end` the first goes to place `elements`, the one there to the end, and `me` to the front.
 #[tactic(auto, unfolding(crate::specs::Model::turned))]
 pub fn turn_list(lists: &mut [i64], n: usize, me: usize, p: usize, elements: usize, end: usize)
     requires { Rows n lists.old × (me < n) × (me < 2 ^ 63) × (p ≤ elements) × (elements ≤ end) × (end < length lists.old) }
@@ -235,25 +228,11 @@ pub fn turn_list(lists: &mut [i64], n: usize, me: usize, p: usize, elements: usi
     cells::put_row(lists, n, p, me);
 }
 
-// The same within a memory.
-#[tactic(auto, unfolding(crate::specs::Model::turned))]
-fn turn_part(m: &mut Memory, me: usize, p: usize, elements: usize, end: usize)
-    requires { (me < m.old.n) × (p ≤ elements) × (elements ≤ end) × (end < length m.old.lists) }
-    ensures turned { m.new ≡ record m.old { lists = turned me p elements end m.old.lists } }
-    ensures size { length m.new.lists ≡ length m.old.lists }
-{
-    let last = m.row(elements);
-    m.put_row(end, last);
-    let first = m.row(p);
-    m.put_row(elements, first);
-    m.put_row(p, me);
-}
-
 // The counts of row `i`, with `me` in its list.
 #[tactic(auto, unfolding(crate::specs::Model::sized))]
 pub fn finish_list(m: &mut Memory, i: usize, elements: usize, cnt: usize)
-    requires { (i < m.old.n) × (elements < 2 ^ 62) × (cnt < 2 ^ 62) }
-    ensures { m.new ≡ record m.old { scratch = sized m.old.n i elements cnt m.old.scratch } }
+    requires { (i < (space m.old).n) × (elements < 2 ^ 62) × (cnt < 2 ^ 62) }
+    ensures { space m.new ≡ record (space m.old) { scratch = sized (space m.old).n i elements cnt (space m.old).scratch } }
 {
     m.set(Field::Elen, i, elements + 1);
     m.set(Field::Len, i, cnt + 1);
@@ -262,8 +241,8 @@ pub fn finish_list(m: &mut Memory, i: usize, elements: usize, cnt: usize)
 // The degree without the new element: the smaller of the old and `deg`. Written where it is lower alone: a `min` would write the old one over itself.
 #[tactic(auto, unfolding(crate::specs::Model::lowered))]
 pub fn lower_degree(m: &mut Memory, i: usize, deg: usize)
-    requires { i < m.old.n }
-    ensures { m.new ≡ record m.old { scratch = lowered m.old.n i deg m.old.scratch } }
+    requires { i < (space m.old).n }
+    ensures { space m.new ≡ record (space m.old) { scratch = lowered (space m.old).n i deg (space m.old).scratch } }
 {
     let old = m.get(Field::Degree, i);
     if deg < old {
@@ -284,8 +263,8 @@ pub fn key_of(n: usize, sum: usize) -> usize
 // Row `i` is the newest of its key.
 #[tactic(auto, unfolding(crate::specs::Model::keyed))]
 pub fn put_key(m: &mut Memory, i: usize, key: usize)
-    requires { (i < m.old.n) × (key < m.old.n) }
-    ensures { m.new ≡ record m.old { scratch = keyed m.old.n i key m.old.scratch } }
+    requires { (i < (space m.old).n) × (key < (space m.old).n) }
+    ensures { space m.new ≡ record (space m.old) { scratch = keyed (space m.old).n i key (space m.old).scratch } }
 {
     let before = m.get(Field::HHead, key);
     m.set(Field::HNext, i, before);
@@ -294,14 +273,15 @@ pub fn put_key(m: &mut Memory, i: usize, key: usize)
 }
 
 // Row `i`, which has moved to the front of its place `p` what it keeps, gets its list, its degree and its bucket.
-#[tactic(auto, unfolding(crate::specs::Model::relisted))]
+#[tactic(auto, unfolding(cells::specs::Space::space, crate::specs::Model::relisted))]
 pub fn relist(m: &mut Memory, me: usize, i: usize, p: usize, k: Kept)
-    requires { (me < m.old.n) × (i < m.old.n) × (p ≤ k.elements) × (k.elements ≤ k.end) × (k.end < length m.old.lists) }
-    ensures relisted { m.new ≡ record m.old { lists = turned me p k.elements k.end m.old.lists; scratch = relisted m.old.n i p k m.old.scratch } }
-    ensures size { length m.new.lists ≡ length m.old.lists }
+    requires { (me < (space m.old).n) × (i < (space m.old).n) × (p ≤ k.elements) × (k.elements ≤ k.end) × (k.end < length (space m.old).lists) }
+    ensures relisted { space m.new
+        ≡ record (space m.old) { lists = turned me p k.elements k.end (space m.old).lists; scratch = relisted (space m.old).n i p k (space m.old).scratch } }
+    ensures size { length (space m.new).lists ≡ length (space m.old).lists }
 {
     prove!(k.end < m.size());
-    turn_part(m, me, p, k.elements, k.end);
+    turn_list(m.rows, m.columns, me, p, k.elements, k.end);
     finish_list(m, i, k.elements - p, k.end - p);
     lower_degree(m, i, k.deg);
     let key = key_of(m.columns(), k.sum);
@@ -320,10 +300,11 @@ pub fn update_inside(
     elen: usize,
     t: Merged,
 ) -> Merged
-    requires { (r.me < m.old.n) × (i < m.old.n) × (elen ≤ part.len) × (part.from + part.len ≤ length m.old.lists) }
-    ensures settled { trimming m.new.lists m.new.scratch result
-        ≡ settled m.old.n r.me i part.from (kept_all m.old.n r.me r.flag r.aggressive part.from elen part.len m.old.lists m.old.scratch) t }
-    ensures size { SameSize m.old m.new }
+    requires { (r.me < (space m.old).n) × (i < (space m.old).n) × (elen ≤ part.len) × (part.from + part.len ≤ length (space m.old).lists) }
+    ensures settled { trimming (space m.new).lists (space m.new).scratch result
+        ≡ settled (space m.old).n r.me i part.from (kept_all (space m.old).n r.me r.flag r.aggressive part.from elen part.len (space m.old).lists
+        (space m.old).scratch) t }
+    ensures size { SameSize (space m.old) (space m.new) }
 {
     let k = keep_all(m, r, part, elen);
     if k.end <= part.from {
@@ -338,9 +319,10 @@ pub fn update_inside(
 // Row `i`. Whether its list is there is asked once.
 #[tactic(auto, unfolding(crate::specs::Model::updated))]
 pub fn update_variable(m: &mut Memory, r: Rule, i: usize, t: Merged) -> Merged
-    requires { (r.me < m.old.n) × (i < m.old.n) }
-    ensures updated { trimming m.new.lists m.new.scratch result ≡ updated m.old.n r.me r.flag r.aggressive i (trimming m.old.lists m.old.scratch t) }
-    ensures size { SameSize m.old m.new }
+    requires { (r.me < (space m.old).n) × (i < (space m.old).n) }
+    ensures updated { trimming (space m.new).lists (space m.new).scratch result
+        ≡ updated (space m.old).n r.me r.flag r.aggressive i (trimming (space m.old).lists (space m.old).scratch t) }
+    ensures size { SameSize (space m.old) (space m.new) }
 {
     let list = Part {
         from: m.get(Field::Pe, i),
@@ -357,9 +339,10 @@ pub fn update_variable(m: &mut Memory, r: Rule, i: usize, t: Merged) -> Merged
 // The row in cell `q` of the lists.
 #[tactic(auto, unfolding(crate::specs::Model::updated_at))]
 pub fn update_at(m: &mut Memory, r: Rule, q: usize, t: Merged) -> Merged
-    requires { (r.me < m.old.n) × (q < length m.old.lists) }
-    ensures updated { trimming m.new.lists m.new.scratch result ≡ updated_at m.old.n r.me r.flag r.aggressive q (trimming m.old.lists m.old.scratch t) }
-    ensures size { SameSize m.old m.new }
+    requires { (r.me < (space m.old).n) × (q < length (space m.old).lists) }
+    ensures updated { trimming (space m.new).lists (space m.new).scratch result
+        ≡ updated_at (space m.old).n r.me r.flag r.aggressive q (trimming (space m.old).lists (space m.old).scratch t) }
+    ensures size { SameSize (space m.old) (space m.new) }
 {
     let i = m.row(q);
     update_variable(m, r, i, t)
@@ -368,10 +351,10 @@ pub fn update_at(m: &mut Memory, r: Rule, q: usize, t: Merged) -> Merged
 // The rows of the new element, as far as its part of the lists is there; `made` rows are in the log before.
 #[tactic(auto, using(plain::proofs::Turns::begin, plain::proofs::Turns::finish), unfolding(crate::specs::Model::updated_all))]
 pub fn update_all(m: &mut Memory, r: Rule, part: Part, made: usize) -> Merged
-    requires { (r.me < m.old.n) × (made < 2 ^ 63) }
-    ensures updated { trimming m.new.lists m.new.scratch result
-        ≡ updated_all m.old.n r.me r.flag r.aggressive part.from part.len made m.old.lists m.old.scratch }
-    ensures size { SameSize m.old m.new }
+    requires { (r.me < (space m.old).n) × (made < 2 ^ 63) }
+    ensures updated { trimming (space m.new).lists (space m.new).scratch result
+        ≡ updated_all (space m.old).n r.me r.flag r.aggressive part.from part.len made (space m.old).lists (space m.old).scratch }
+    ensures size { SameSize (space m.old) (space m.new) }
 {
     let turns = m.clip(part);
     let mut t = Merged { weight: 0, made };

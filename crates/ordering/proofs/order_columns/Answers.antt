@@ -6,7 +6,7 @@ use lib.IntN.{ℤ, pos, nat_abs}
 use lib.ListN.{length-replicate}
 use mir.Syntax.{w32}
 use borrow.Author.Rules.{rules}
-use Rattle.cells.specs.Space.{Space}
+use Rattle.cells.specs.Space.{Space, space}
 use Rattle.checks.proofs.Orders.{read, to_number}
 use Rattle.ordering.proofs.Calls.{all_met, count_sign, enough, none_met, part_length, within}
 use Rattle.ordering.proofs.order_columns.Goals as goal
@@ -30,7 +30,7 @@ order_pattern-requires c = rw (c.new-m.ensures.cleared, read w32 c.args.n c.rang
 
 pub returns : goal.returns
 returns c =
-    let m = c.new-m.result in
+    let m = space c.new-m.result in
     let columns = ap (λ (x : Space). x.n) c.new-m.ensures.cleared ∙ ap nat_abs (read w32 c.args.n c.ranges.n.sfits) in
     all_met _ _ _ _ _ _ _ _ c.args.a c.requires.answered c.requires.accepted m.lists m.scratch _ _ _ _
     (some c.args.n (rw (read w32 c.args.n c.ranges.n.sfits) at c.if-columns-eq0.false))

@@ -1,10 +1,9 @@
-use Rattle.std.proofs.Common.{◌+◌, ◌≤◌}
-use Rattle.cells.specs.Space.{SameLists}
-use Rattle.cells.specs.View.{at}
+use Rattle.std.proofs.Common.{◌≡◌, ◌+◌, ◌≤◌, length}
+use Rattle.cells.specs.View.{Room, at}
 use Rattle.packed.specs.Tray.{Tabled, taking, took}
 use Rattle.plain.specs.Turns.{Turned}
 use Rattle.packed.proofs.take_part.Given as goal
 
 abbrev pub invariant-loop-i : goal.invariant-loop-i
-invariant-loop-i l = Turned (λ j. took l.initial.m.n l.quota (at l.initial.m.lists (l.part.from + j))) (taking l.initial.m.scratch l.initial.t) l.i (taking l.m.scratch l.t)
-    × SameLists l.initial.m l.m × Tabled l.initial.m.n l.m.scratch l.t.cnt × (l.i ≤ l.there)
+invariant-loop-i l = Turned (λ j. took l.n l.quota (at l.lists (l.part.from + j))) (taking l.initial.s l.initial.t) l.i (taking l.s l.t)
+    × (length l.s ≡ length l.initial.s) × Room l.n l.s × Tabled l.n l.s l.t.cnt × (l.i ≤ l.there)

@@ -3,6 +3,7 @@ use borrow.Author.Tests.{lt-ltb}
 use Rattle.pattern.specs.Model.{paired_part, paired_at}
 use Rattle.pattern.proofs.Scans.{scan_none, scan_more, scan_stop, scan_next, scan_end, scan_last}
 use Rattle.pattern.proofs.Unwritten.{paired_at_rows}
+use Rattle.cells.specs.Space.{space}
 use Rattle.pattern.proofs.pair_above.Goals as goal
 
 pub loop-p-init : goal.loop-p-init
@@ -15,7 +16,7 @@ loop-p-preserved c =
     let e = rw n at c.entry-i.ensures.0 in
     let h = rw n at c.add_pair.ensures.memory in
     record {
-      done = scan_more _ _ _ _ _ _ _ _ c.loop-p.invariant.done _ e _ (rw (← e, lt-ltb c.entry-i.result c.args.m.now.n (search rules)) h) (search rules) (search rules) (paired_at_rows _ _ _ _);
+      done = scan_more _ _ _ _ _ _ _ _ c.loop-p.invariant.done _ e _ (rw (← e, lt-ltb c.entry-i.result (space c.args.m.now).n (search rules)) h) (search rules) (search rules) (paired_at_rows _ _ _ _);
       size = search rules;
     }
 

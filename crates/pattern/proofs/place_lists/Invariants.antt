@@ -2,10 +2,11 @@
 use Prim.Native.Nat.{◌<◌, ◌^◌}
 use mathlib.Core.Path.{◌≡◌}
 use Rattle.plain.specs.Turns.{times}
-use Rattle.cells.specs.Space.{SameLists}
+use Rattle.cells.specs.Space.{space, SameLists}
 use Rattle.pattern.specs.Model.{spot, placed_list}
 use Rattle.pattern.proofs.place_lists.Given as goal
 
 abbrev pub invariant-loop-i : goal.invariant-loop-i
 invariant-loop-i l =
-    (spot l.m.scratch l.free ≡ times l.i (placed_list l.initial.m.n) (spot l.initial.m.scratch 0)) × SameLists l.initial.m l.m × (l.free < 2 ^ 63)
+    (spot (space l.m).scratch l.free ≡ times l.i (placed_list (space l.initial.m).n) (spot (space l.initial.m).scratch 0))
+    × SameLists (space l.initial.m) (space l.m) × (l.free < 2 ^ 63)

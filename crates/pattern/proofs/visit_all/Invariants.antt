@@ -2,8 +2,12 @@
 use mathlib.Core.Path.{◌≡◌}
 use Rattle.plain.specs.Turns.{times}
 use Rattle.pattern.specs.Model.{visited_next}
+use Rattle.cells.specs.Space.{space}
 use Rattle.pattern.proofs.visit_all.Given as goal
 
 abbrev pub invariant-loop-j : goal.invariant-loop-j
 invariant-loop-j l =
-    l.m ≡ record l.initial.m { scratch = times l.j (visited_next l.initial.m.n l.pattern.pointers.now l.pattern.rows.now) l.initial.m.scratch }
+    space l.m ≡ record (space l.initial.m) {
+      scratch = times l.j (visited_next (space l.initial.m).n l.pattern.pointers.now l.pattern.rows.now)
+          (space l.initial.m).scratch;
+    }

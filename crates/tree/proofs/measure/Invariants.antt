@@ -2,7 +2,8 @@
 use Rattle.std.proofs.Common.{◌≡◌}
 use Rattle.plain.specs.Turns.{times}
 use Rattle.tree.specs.Model.{measured_one}
+use Rattle.cells.specs.Space.{space}
 use Rattle.tree.proofs.measure.Given as goal
 
 abbrev pub invariant-loop-j : goal.invariant-loop-j
-invariant-loop-j l = l.m ≡ record l.initial.m { scratch = times l.j (measured_one l.initial.m.n) l.initial.m.scratch }
+invariant-loop-j l = space l.m ≡ record (space l.initial.m) { scratch = times l.j (measured_one (space l.initial.m).n) (space l.initial.m).scratch }

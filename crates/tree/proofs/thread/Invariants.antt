@@ -3,9 +3,10 @@ use Rattle.std.proofs.Common.{◌≡◌, ◌-◌}
 use Rattle.plain.specs.Turns.{times}
 use Rattle.tree.specs.Class.{class_number}
 use Rattle.tree.specs.Model.{threaded_one}
+use Rattle.cells.specs.Space.{space}
 use Rattle.tree.proofs.thread.Given as goal
 
 abbrev pub invariant-loop-j : goal.invariant-loop-j
 invariant-loop-j l =
-    let n = l.initial.m.n in
-    l.m ≡ record l.initial.m { scratch = times (n - l.j) (λ k. threaded_one n (class_number l.class) (n - 1 - k)) l.initial.m.scratch }
+    let n = (space l.initial.m).n in
+    space l.m ≡ record (space l.initial.m) { scratch = times (n - l.j) (λ k. threaded_one n (class_number l.class) (n - 1 - k)) (space l.initial.m).scratch }

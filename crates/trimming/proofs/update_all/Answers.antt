@@ -7,4 +7,5 @@ loop-j-preserved c = record {
   turned = turn _ _ _ _ c.loop-j.invariant.turned _ (rw c.loop-j.invariant.columns at c.update_at-t.ensures.updated);
   columns = search rules;
   size = search rules;
+  names = search rules;
 }
