@@ -12,7 +12,7 @@ pub record Space : Type 0 where
   pub scratch : List ℤ
   pub names : ℕ × ℕ
 
--- who lent the slices learns by their names what they hold behind a call
+-- the names are those of the two references, list space first: by them who lent the slices knows what they hold behind a call
 unfoldable pub space : Memory → Space
 space m = record { n = m.columns; lists = m.rows.now; scratch = m.fields.now; names = (m.rows.ghost_name, m.fields.ghost_name) }
 
@@ -21,10 +21,10 @@ pub record Fits (m : Space) : Type 0 where
   pub room : Room m.n m.scratch
   pub rows : Rows m.n m.lists
 
--- for as many columns, with the list space as it was
+-- for as many columns, over the same slices, with the list space as it was
 abbrev pub SameLists : Space → Space → Type 0
 SameLists old new = (new.n ≡ old.n) × (new.lists ≡ old.lists) × (new.names ≡ old.names)
 
--- for as many columns, with a list space of as many cells
+-- for as many columns, over the same slices, with a list space of as many cells
 abbrev pub SameSize : Space → Space → Type 0
 SameSize old new = (new.n ≡ old.n) × (length new.lists ≡ length old.lists) × (new.names ≡ old.names)

@@ -38,7 +38,7 @@ pub fn clear(l: &mut [i64])
 fn natural(x: i64) -> usize
     ensures { (result ≡ nat x) × (result < 2 ^ 63) }
 {
-    usize::try_from(x).unwrap_or(0)
+    x.max(0) as usize
 }
 
 // Number `i` of the slice; a negative one counts as 0, and so does one past the end.

@@ -297,7 +297,8 @@ impl<'a, 'b> Memory<'a, 'b> {
         Self::over(columns, lists, scratch)
     }
 
-    /// Both workspaces, given back: what they hold is known behind these.
+    /// Both workspaces, given back: what they hold is known behind these alone. Where it is to be known of the slices that were lent, the memory is taken apart
+    /// where it stands: `let Memory { columns: _, rows, fields } = m;`.
     #[tactic(auto, unfolding(crate::specs::Space::space))]
     pub fn into_parts(self) -> (&'a mut [i64], &'b mut [i64])
         ensures lists { result.0.now ≡ (space self.entry).lists }

@@ -1,5 +1,7 @@
 // Who lends slices to a `Memory` knows afterwards what they hold: what an accessor and the three steps of an ordering promise of a memory is promised here of
 // the slices that were lent to it, and no more is asked than of the memory. No program runs these: they show what the clauses of the steps are worth.
+// A slice that was lent is lent on as here. Beside an array of one's own a list space of no cells is named first (`let none: &mut [i64] = &mut [];`); a part of
+// a slice is named too, and its length used once more behind the block of its memory.
 #![tactic(auto, unfolding(cells::specs::Space::space))]
 
 ghost use Rattle.std.specs.Prelude.{◌≡◌, ◌<◌, ◌^◌};

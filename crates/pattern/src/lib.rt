@@ -1,12 +1,13 @@
 // The pattern that is ordered, in the scratch (preprocess.rs), and A+A' in the list space (aat.rs and the first half of amd_1.rs). What the Rust counts first
 // and writes then is here one pass, done twice: with every cursor at 0 it counts, and from each list's place it writes. What the first one stores is
 // stored over.
-// Both passes, of the cleaning and of the pairs, are compiled in place (`inline(always)`): behind a pointer the parts of a memory would be read anew at each
-// store, which doubles a pass.
+// What both passes, of the cleaning and of the pairs, are made of is compiled in place (`inline(always)`): behind a pointer the parts of a memory would be read
+// anew at each store, which doubles a pass.
 #![tactic(auto)]
 
 ghost use Rattle.std.specs.Prelude.{◌≡◌, ◌+◌, ◌<◌, ◌≤◌, ◌^◌};
-ghost use Rattle.cells.specs.View.{rd};
+ghost use Rattle.cells.specs.Rows.{Rows};
+ghost use Rattle.cells.specs.View.{Room, rd};
 ghost use Rattle.cells.specs.Space.{space, SameLists, SameSize};
 ghost use Rattle.pattern.specs.Reach.{reach, behind, past};
 ghost use Rattle.pattern.specs.Model.{copied_pointers, copied_rows, copied, cleared, cleared_all, rowed, visited, visited_column, visited_next, visited_all, spot, placed_row, placed_rows, transposed, tidied, heap, added, paired, paired_at, paired_part, passed, met, met_part, met_column, met_columns, met_rest, met_rests, scanned, emptied_all, placed_list, placed_lists, built, built_free};
@@ -265,8 +266,8 @@ pub fn pair_above(m: &mut Memory, j: usize, k: usize, from: usize, to: usize) ->
 }
 
 // What waits in column `j` before row `k`: it is in no column above the diagonal. Row `k` itself, if it is next, is the pair that led here.
-#[tactic(auto, unfolding(crate::specs::Model::passed, crate::specs::Model::marked, crate::specs::Model::stop_of, crate::specs::Model::next_of))]
 #[inline(always)]
+#[tactic(auto, unfolding(crate::specs::Model::passed, crate::specs::Model::marked, crate::specs::Model::stop_of, crate::specs::Model::next_of))]
 pub fn pass(m: &mut Memory, j: usize, k: usize)
     requires { (j < (space m.old).n) × (k < (space m.old).n) }
     ensures memory { heap (space m.new).lists (space m.new).scratch ≡ passed (space m.old).n j k (heap (space m.old).lists (space m.old).scratch) }
@@ -280,8 +281,8 @@ pub fn pass(m: &mut Memory, j: usize, k: usize)
 }
 
 // Row `j` of column `k`, above the diagonal.
-#[tactic(auto, unfolding(crate::specs::Model::met))]
 #[inline(always)]
+#[tactic(auto, unfolding(crate::specs::Model::met))]
 pub fn meet(m: &mut Memory, k: usize, j: usize)
     requires { (k < (space m.old).n) × (j < (space m.old).n) }
     ensures memory { heap (space m.new).lists (space m.new).scratch ≡ met (space m.old).n k j (heap (space m.old).lists (space m.old).scratch) }
@@ -362,14 +363,23 @@ pub fn meet_rests(m: &mut Memory)
     }
 }
 
-#[inline(always)]
-#[tactic(auto, unfolding(crate::specs::Model::scanned))]
+// All columns and then all rests, over the slices themselves: where these lie stays in registers, and would be read anew at each store behind a memory.
+#[tactic(auto, unfolding(cells::specs::Space::space, crate::specs::Model::scanned))]
+fn meet_all(lists: &mut [i64], s: &mut [i64], n: usize)
+    requires { Room n s.old × Rows n lists.old }
+    ensures { (heap lists.new s.new ≡ scanned n (heap lists.old s.old)) × Room n s.new × Rows n lists.new }
+{
+    let mut m = Memory::over(n, lists, s);
+    meet_columns(&mut m);
+    meet_rests(&mut m);
+}
+
+#[tactic(auto, unfolding(cells::specs::Space::space))]
 pub fn scan(m: &mut Memory)
     ensures memory { heap (space m.new).lists (space m.new).scratch ≡ scanned (space m.old).n (heap (space m.old).lists (space m.old).scratch) }
     ensures size { SameSize (space m.old) (space m.new) }
 {
-    meet_columns(m);
-    meet_rests(m);
+    meet_all(m.rows, m.fields, m.columns);
 }
 
 // ---- the lists
