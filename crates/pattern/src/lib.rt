@@ -363,7 +363,7 @@ pub fn meet_rests(m: &mut Memory)
     }
 }
 
-// All columns and then all rests, over the slices themselves: where these lie stays in registers, and would be read anew at each store behind a memory.
+// All columns and then all rests, over the slices themselves: behind a memory of somebody else's the place of each would be read anew after each store.
 #[tactic(auto, unfolding(cells::specs::Space::space, crate::specs::Model::scanned))]
 fn meet_all(lists: &mut [i64], s: &mut [i64], n: usize)
     requires { Room n s.old × Rows n lists.old }
