@@ -16,7 +16,8 @@ loop-p-preserved c =
     let e = rw n at c.entry-i.ensures.0 in
     let h = rw n at c.add_pair.ensures.memory in
     record {
-      done = scan_more _ _ _ _ _ _ _ _ c.loop-p.invariant.done _ e _ (rw (← e, lt-ltb c.entry-i.result (space c.args.m.now).n (search rules)) h) (search rules) (search rules) (paired_at_rows _ _ _ _);
+      done = scan_more _ _ _ _ _ _ _ _ c.loop-p.invariant.done _ e _
+          (rw (← e, lt-ltb c.entry-i.result (space c.args.m.now).n (search rules)) h) (search rules) (search rules) (paired_at_rows _ _ _ _);
       size = search rules;
     }
 
